@@ -1,17 +1,18 @@
 -- Macro definitions (ORCA/M reference manual, "Macro definitions").
-use Rattle.std.specs.Prelude.{ℕ, ◌+◌, Bool, nat_lt, List, [], ◌∷◌, ◌++◌, length, map, codes, bytes_eq, Option, Some, None, if◌then◌else◌}
+use Rattle.std.specs.Prelude.{ℕ, ◌+◌, Bool, List, [], ◌∷◌, ◌++◌, length, map, codes, bytes_eq, Option, Some, None, option_map, if◌then◌else◌}
 use Rattle.omf_format.specs.Ascii as ascii
 use Rattle.macro_meaning.specs.declared.faults.MacroCause.{MacroCause}
 use Rattle.macro_meaning.specs.declared.faults.MacroCause.TheVariants.{Unclosed, BadArguments}
+use Rattle.orca_meaning.specs.Characters.{folded}
 use Rattle.orca_meaning.specs.Token.{name_at}
-use Rattle.orca_meaning.specs.Line.{Line, LineFields, part, is_comment, three_fields}
+use Rattle.orca_meaning.specs.Line.{Line, part, is_comment, three_fields}
 use Rattle.macro_meaning.specs.Pieces.{pieces}
-use Rattle.macro_meaning.specs.Statements.{is_operation, whole_match, symbol_name}
+use Rattle.macro_meaning.specs.Statements.{whole_match, symbol_name}
 
 -- ---- the lines of a file
 
 abbrev pub operation_is : List ℕ → Line → Bool
-operation_is spelling line = is_operation spelling (part line.text line.fields.operation)
+operation_is spelling line = bytes_eq (folded (part line.text line.fields.operation)) spelling
 
 -- a part of a file: a line outside definitions; a definition, with its MACRO line, the lines in it and its MEND line; or
 -- one that lacks its MEND
@@ -42,15 +43,10 @@ pub record Model : Type 0 where
   pub label : Option (List ℕ)
   pub parameters : List (List ℕ)
 
-abbrev pub one_more : Option (List ℕ) → Option (List (List ℕ)) → Option (List (List ℕ))
-one_more (Some name) (Some names) = Some (name ∷ names)
-one_more (Some name) None = None
-one_more None names = None
-
 -- parameters `&NAME`
 unfoldable pub names_of : List (List ℕ) → Option (List (List ℕ))
 names_of [] = Some []
-names_of (piece ∷ pieces) = one_more (symbol_name piece) (names_of pieces)
+names_of (piece ∷ pieces) = elim (symbol_name piece) [ None ↦ None | Some name ↦ elim (names_of pieces) [ None ↦ None | Some names ↦ Some (name ∷ names) ] ]
 
 -- the parameters of an operand, separated by commas; none where there is no operand
 abbrev pub parameters_of : List ℕ → Option (List (List ℕ))
@@ -62,19 +58,17 @@ abbrev pub label_of : List ℕ → Option (Option (List ℕ))
 label_of [] = Some None
 label_of (byte ∷ following) = elim (symbol_name (byte ∷ following)) [ None ↦ None | Some name ↦ Some (Some name) ]
 
-abbrev pub model_from : Option (List ℕ) → Option (Option (List ℕ)) → Option (List (List ℕ)) → Option Model
-model_from (Some name) (Some label) (Some parameters) = Some (record { name = name; label = label; parameters = parameters })
-model_from (Some name) (Some label) None = None
-model_from (Some name) None parameters = None
-model_from None label parameters = None
-
-abbrev pub model_by : List ℕ → LineFields → Option Model
-model_by text fields =
-    model_from (whole_match (name_at (part text fields.operation))) (label_of (part text fields.label)) (parameters_of (part text fields.operand))
-
 -- a model line: a label parameter `&NAME` or none, a name as operation, and parameters `&NAME` separated by commas
 unfoldable pub model_of : List ℕ → Option Model
-model_of text = if is_comment text then None else model_by text (three_fields text)
+model_of text =
+    let fields = three_fields text in
+    if is_comment text then None else elim (whole_match (name_at (part text fields.operation))) [
+      | None ↦ None
+      | Some name ↦ elim (label_of (part text fields.label)) [
+        | None ↦ None
+        | Some label ↦ elim (parameters_of (part text fields.operand)) [ None ↦ None | Some parameters ↦ Some (record { name = name; label = label; parameters = parameters }) ]
+      ]
+    ]
 
 -- ---- definitions
 
@@ -90,22 +84,18 @@ pub record MacroDefinition : Type 0 where
   pub visible_after : ℕ
   pub body : MacroBody
 
-abbrev pub definition_by : ℕ → List Line → Line → Option Model → Option MacroDefinition
-definition_by following inner ends None = None
-definition_by following inner ends (Some model) = Some (record { model = model; visible_after = following; body = record { lines = inner ++ ends ∷ []; reach = length inner } })
-
 -- the definition with these lines between MACRO and MEND, of which the first is the model line
 abbrev pub definition_from : ℕ → List Line → Line → Option MacroDefinition
 definition_from following [] ends = None
-definition_from following (model ∷ inner) ends = definition_by following inner ends (model_of model.text)
+definition_from following (model ∷ inner) ends = elim (model_of model.text) [
+  | None ↦ None
+  | Some read ↦ Some (record { model = read; visible_after = following; body = record { lines = inner ++ ends ∷ []; reach = length inner } })
+]
 
--- the line from which a definition counts: in a macro file all count everywhere
-abbrev pub counts_after : Bool → Line → ℕ
-counts_after in_source begins = if in_source then begins.number else 0
-
+-- a definition counts from its line on, and in a macro file everywhere
 abbrev pub definition_of : Bool → DefinitionPart → Option MacroDefinition
 definition_of in_source (Plain line) = None
-definition_of in_source (Closed begins inner ends) = definition_from (counts_after in_source begins) inner ends
+definition_of in_source (Closed begins inner ends) = definition_from (if in_source then begins.number else 0) inner ends
 definition_of in_source (Open begins inner) = None
 
 abbrev pub list_of_option : {A : Type 0} → Option A → List A
@@ -128,14 +118,10 @@ source_body ps = record { lines = map source_line ps; reach = length ps }
 -- ---- what is wrong with definitions
 
 -- no MEND, at the MACRO line; else a model line that isn't one, at that line
-abbrev pub model_fault : Line → Option Model → Option (Line × MacroCause)
-model_fault line None = Some (line, BadArguments)
-model_fault line (Some model) = None
-
 abbrev pub part_fault : DefinitionPart → Option (Line × MacroCause)
 part_fault (Plain line) = None
 part_fault (Closed begins [] ends) = Some (ends, BadArguments)
-part_fault (Closed begins (model ∷ inner) ends) = model_fault model (model_of model.text)
+part_fault (Closed begins (model ∷ inner) ends) = elim (model_of model.text) [ None ↦ Some (model, BadArguments) | Some read ↦ None ]
 part_fault (Open begins inner) = Some (begins, Unclosed)
 
 abbrev pub or_else : {A : Type 0} → Option A → Option A → Option A
@@ -149,14 +135,6 @@ first_part_fault (p ∷ ps) = or_else (part_fault p) (first_part_fault ps)
 -- ---- which definition a name means
 
 -- the place of the first definition of a name
-abbrev pub next_place : Option ℕ → Option ℕ
-next_place None = None
-next_place (Some place) = Some (place + 1)
-
 unfoldable pub first_named : List ℕ → List MacroDefinition → Option ℕ
 first_named name [] = None
-first_named name (d ∷ ds) = if bytes_eq d.model.name name then Some 0 else next_place (first_named name ds)
-
--- it counts in an expansion that began at this line of the source, or at that line
-abbrev pub is_visible_in : ℕ → MacroDefinition → Bool
-is_visible_in root d = nat_lt d.visible_after root
+first_named name (d ∷ ds) = if bytes_eq d.model.name name then Some 0 else option_map (λ place. place + 1) (first_named name ds)

@@ -41,12 +41,12 @@ cause_of texts.BadOperand = BadSetting
 cause_of texts.BadNumber = BadSetting
 cause_of texts.Memory = Memory
 
-abbrev pub text_fault_at : ℕ → Option (ℕ × TextCause) → Option MacroFault
-text_fault_at file None = None
-text_fault_at file (Some (number, cause)) = Some (record { cause = cause_of cause; file = file; line = number })
-
+-- the fault of a file that can't be read
 abbrev pub file_text_fault : ℕ → List ℕ → Option MacroFault
-file_text_fault file bytes = text_fault_at file (first_line_fault 1 (lines_of bytes))
+file_text_fault file bytes = elim (first_line_fault 1 (lines_of bytes)) [
+  | None ↦ None
+  | Some (number, cause) ↦ Some (record { cause = cause_of cause; file = file; line = number })
+]
 
 -- at a line
 abbrev pub fault_at : Line → MacroCause → MacroFault
@@ -100,9 +100,8 @@ pub data IsFirstFault (source : List ℕ) (macros : List (List ℕ)) (fault : Ma
       → fault ≡ fault_at line cause → IsFirstFault source macros fault
 
 -- an allocation failure has no line; any other fault is the first
-abbrev pub IsFaultFor : MacroCause → List ℕ → List (List ℕ) → MacroFault → Type 0
-IsFaultFor Memory source macros fault = (fault.file ≡ 0) × (fault.line ≡ 0)
-IsFaultFor _ source macros fault = IsFirstFault source macros fault
-
 abbrev pub IsMacroFault : List ℕ → List (List ℕ) → MacroFault → Type 0
-IsMacroFault source macros fault = IsFaultFor fault.cause source macros fault
+IsMacroFault source macros fault = elim fault.cause [
+  | Memory ↦ (fault.file ≡ 0) × (fault.line ≡ 0)
+  | _ ↦ IsFirstFault source macros fault
+]

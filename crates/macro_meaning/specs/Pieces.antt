@@ -1,9 +1,10 @@
 -- Texts separated by commas or plus signs, and texts in quotes.
-use Rattle.std.specs.Prelude.{ℕ, ◌+◌, ◌-◌, Bool, ◌&&◌, ◌||◌, ◌==◌, nat_lt, List, [], ◌∷◌, ◌++◌, length, take, drop, Option, Some, None, if◌then◌else◌}
+use Rattle.std.specs.Prelude.{ℕ, ◌+◌, ◌-◌, Bool, ◌&&◌, ◌||◌, ◌==◌, nat_lt, List, [], ◌∷◌, ◌++◌, length, take, drop, Option, Some, None, if◌then◌else◌, is_none}
 use Rattle.std.specs.List.{position_or_len}
 use Rattle.omf_format.specs.Ascii as ascii
-use Rattle.orca_meaning.specs.Quotes.{quote_following, is_closed}
+use Rattle.orca_meaning.specs.Quotes.{quote_following}
 use Rattle.orca_meaning.specs.Token.{Found}
+use Rattle.macro_meaning.specs.Statements.{whole_match}
 
 -- How many parentheses are open after a byte. In quotes a parenthesis is text, and so is one that closes none.
 abbrev pub open_after : Option ℕ → ℕ → ℕ → ℕ
@@ -12,19 +13,17 @@ open_after (Some quote) count byte = count
 
 -- whether the byte is a separator outside quotes and parentheses
 abbrev pub parts : ℕ → Option ℕ → ℕ → ℕ → Bool
-parts separator quote count byte = is_closed quote && count == 0 && byte == separator
-
--- one more byte of the first piece
-abbrev pub with_byte : ℕ → List (List ℕ) → List (List ℕ)
-with_byte byte [] = (byte ∷ []) ∷ []
-with_byte byte (piece ∷ pieces) = (byte ∷ piece) ∷ pieces
+parts separator quote count byte = is_none quote && count == 0 && byte == separator
 
 -- the pieces between the separators outside quotes and parentheses, where this quote and this number of parentheses are open
 unfoldable pub pieces_from : ℕ → Option ℕ → ℕ → List ℕ → List (List ℕ)
 pieces_from separator quote count [] = [] ∷ []
 pieces_from separator quote count (byte ∷ following) =
     if parts separator quote count byte then [] ∷ pieces_from separator None 0 following
-    else with_byte byte (pieces_from separator (quote_following quote byte) (open_after quote count byte) following)
+    else elim (pieces_from separator (quote_following quote byte) (open_after quote count byte) following) [
+      | [] ↦ (byte ∷ []) ∷ []
+      | piece ∷ pieces ↦ (byte ∷ piece) ∷ pieces
+    ]
 
 abbrev pub pieces : ℕ → List ℕ → List (List ℕ)
 pieces separator text = pieces_from separator None 0 text
@@ -42,20 +41,10 @@ quoted_at [] = None
 quoted_at (quote ∷ following) = if quote == ascii.apostrophe || quote == ascii.double_quote then closed_at quote following else None
 
 -- the text in quotes that this is, with nothing after it
-abbrev pub whole_quoted_text : Found (List ℕ) → Option (List ℕ)
-whole_quoted_text None = None
-whole_quoted_text (Some (text, [])) = Some text
-whole_quoted_text (Some (text, byte ∷ following)) = None
-
 abbrev pub unquoted_text : List ℕ → Option (List ℕ)
-unquoted_text text = whole_quoted_text (quoted_at text)
-
-abbrev pub appended_texts : Option (List ℕ) → Option (List ℕ) → Option (List ℕ)
-appended_texts (Some a) (Some b) = Some (a ++ b)
-appended_texts (Some a) None = None
-appended_texts None b = None
+unquoted_text text = whole_match (quoted_at text)
 
 -- texts in quotes, joined
 unfoldable pub joined_texts : List (List ℕ) → Option (List ℕ)
 joined_texts [] = Some []
-joined_texts (piece ∷ pieces) = appended_texts (unquoted_text piece) (joined_texts pieces)
+joined_texts (piece ∷ pieces) = elim (unquoted_text piece) [ None ↦ None | Some a ↦ elim (joined_texts pieces) [ None ↦ None | Some b ↦ Some (a ++ b) ] ]

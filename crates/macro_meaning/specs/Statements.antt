@@ -1,6 +1,6 @@
 -- The statements of conditional assembly, and the labels that branches go to (ORCA/M reference manual, "Conditional
 -- assembly directives").
-use Rattle.std.specs.Prelude.{ℕ, Bool, ◌==◌, List, [], ◌∷◌, codes, bytes_eq, Option, Some, None, if◌then◌else◌}
+use Rattle.std.specs.Prelude.{ℕ, ◌==◌, List, [], ◌∷◌, codes, Option, Some, None, if◌then◌else◌}
 use Rattle.omf_format.specs.Ascii as ascii
 use Rattle.macro_meaning.specs.declared.statements.SymbolKind.TheVariants.{Number, Flag, Text}
 use Rattle.macro_meaning.specs.declared.statements.Declaration.TheVariants.{Local, Shared}
@@ -27,9 +27,6 @@ statements =
 unfoldable pub statement_of : List ℕ → Option Statement
 statement_of operation = value_of_spelling (folded operation) statements
 
-abbrev pub is_operation : List ℕ → List ℕ → Bool
-is_operation spelling operation = bytes_eq (folded operation) spelling
-
 -- ---- names of symbols, and sequence symbols
 
 -- what was found, where nothing follows it
@@ -42,13 +39,9 @@ whole_match (Some (name, byte ∷ following)) = None
 abbrev pub symbol_name : List ℕ → Option (List ℕ)
 symbol_name text = whole_match (symbol_at text)
 
-abbrev pub after_dot : List ℕ → Found (List ℕ)
-after_dot [] = None
-after_dot (byte ∷ following) = if byte == ascii.dot then name_at following else None
-
 -- `.NAME` and nothing else: the name of a sequence symbol, in upper case
 abbrev pub sequence_name : List ℕ → Option (List ℕ)
-sequence_name text = whole_match (after_dot text)
+sequence_name text = whole_match (elim text [ [] ↦ None | byte ∷ following ↦ if byte == ascii.dot then name_at following else None ])
 
 -- where a branch goes: a sequence symbol, maybe after a `^`
 abbrev pub target_name : List ℕ → Option (List ℕ)

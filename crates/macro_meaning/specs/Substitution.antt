@@ -1,11 +1,11 @@
 -- Symbols in a line, and the texts that replace them (ORCA/M reference manual, "Symbolic parameters").
-use Rattle.std.specs.Prelude.{ℕ, zero, suc, ◌+◌, ◌-◌, Bool, true, false, ◌||◌, ◌&&◌, ◌==◌, nat_le, nat_lt, List, [], ◌∷◌, ◌++◌, take, drop, slice_index, Option, Some, None, if◌then◌else◌}
+use Rattle.std.specs.Prelude.{ℕ, zero, suc, ◌+◌, ◌-◌, Bool, true, false, ◌||◌, ◌&&◌, ◌==◌, nat_le, nat_lt, List, [], ◌∷◌, ◌++◌, take, drop, slice_index, Option, Some, None, if◌then◌else◌, is_none}
 use Rattle.std.specs.Char.{to_ascii_uppercase}
 use Rattle.std.specs.List.{prefix_len}
 use Rattle.omf_format.specs.Ascii as ascii
 use Rattle.orca_meaning.specs.declared.lines.Span.{Span}
 use Rattle.orca_meaning.specs.Characters.{is_letter, is_name_start, is_name_byte, folded}
-use Rattle.orca_meaning.specs.Quotes.{is_closed, quote_after}
+use Rattle.orca_meaning.specs.Quotes.{quote_after}
 use Rattle.orca_meaning.specs.Line.{LineFields, part}
 use Rattle.macro_meaning.specs.declared.statements.SymbolKind.TheVariants.{Number, Flag}
 use Rattle.macro_meaning.specs.declared.statements.Statement.{Statement}
@@ -24,16 +24,12 @@ pub data Naming : Type 0 where
 abbrev pub lies_in : Span → ℕ → Bool
 lies_in field at = nat_le field.from at && nat_lt at field.to
 
--- `L:` or `C:` is directly before a place
-abbrev pub asks_before : List ℕ → ℕ → Bool
-asks_before text at =
-    let letter = to_ascii_uppercase (slice_index text (at - 2)) in
-    (letter == ascii.capital_l || letter == ascii.capital_c) && slice_index text (at - 1) == ascii.colon
-
 -- `L:` or `C:` is directly before a place of a field, outside its quotes
 abbrev pub is_asked : List ℕ → Span → ℕ → Bool
 is_asked text field at =
-    nat_le (field.from + 2) at && nat_lt at field.to && asks_before text at && is_closed (quote_after None (take (at - field.from) (drop field.from text)))
+    let letter = to_ascii_uppercase (slice_index text (at - 2)) in
+    nat_le (field.from + 2) at && nat_lt at field.to && ((letter == ascii.capital_l || letter == ascii.capital_c) && slice_index text (at - 1) == ascii.colon)
+    && is_none (quote_after None (take (at - field.from) (drop field.from text)))
 
 -- the statements whose operand may ask for `L:&NAME` and `C:&NAME`
 abbrev pub may_ask : Statement → Bool
@@ -55,19 +51,17 @@ abbrev pub declares : Statement → Bool
 declares (Declare declaration) = true
 declares _ = false
 
--- In three places `&NAME` isn't replaced: in the operand of a declaration, in the label of a statement that sets it, and
+-- In three places of a line `&NAME` isn't replaced: in the operand of a declaration, in the label of a statement that sets it, and
 -- directly after `L:` or `C:`.
-abbrev pub naming_by : Option Statement → List ℕ → LineFields → ℕ → Naming
-naming_by None text fields at = Replaced
-naming_by (Some statement) text fields at =
-    if declares statement && lies_in fields.operand at then Declared
-    else if sets_label statement && lies_in fields.label at then Named
-    else if may_ask statement && is_asked text fields.operand at then Named
-    else Replaced
-
--- which it is at a place of a line, as it is written
 unfoldable pub naming_at : List ℕ → LineFields → ℕ → Naming
-naming_at text fields at = naming_by (statement_of (part text fields.operation)) text fields at
+naming_at text fields at = elim (statement_of (part text fields.operation)) [
+  | None ↦ Replaced
+  | Some statement ↦
+      if declares statement && lies_in fields.operand at then Declared
+      else if sets_label statement && lies_in fields.label at then Named
+      else if may_ask statement && is_asked text fields.operand at then Named
+      else Replaced
+]
 
 -- ---- the text of a line
 

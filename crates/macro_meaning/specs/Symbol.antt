@@ -30,27 +30,19 @@ pub record Values : Type 0 where
   pub calls : ℕ
 
 -- the symbol SYSCNT, which is declared everywhere
-abbrev pub count_name : List ℕ
-count_name = codes "SYSCNT"
-
 abbrev pub is_count : List ℕ → Bool
-is_count name = bytes_eq count_name name
+is_count name = bytes_eq (codes "SYSCNT") name
 
 abbrev pub decimal : ℕ → List ℕ
 decimal n = digits 10 false n
 
-abbrev pub shared_text : Option (SymbolKind × List ℕ) → Option (List ℕ)
-shared_text None = None
-shared_text (Some (kind, text)) = Some text
-
-abbrev pub symbol_text : SharedTexts → List ℕ → Option Symbol → Option (List ℕ)
-symbol_text texts name None = None
-symbol_text texts name (Some (Own kind text)) = Some text
-symbol_text texts name (Some (Common kind)) = shared_text (texts name)
-
 -- the text of a symbol, if it is declared; that of SYSCNT is the number of calls
 unfoldable pub text_of : Values → List ℕ → Option (List ℕ)
-text_of values name = if is_count name then Some (decimal values.calls) else symbol_text values.texts name (values.symbols name)
+text_of values name = if is_count name then Some (decimal values.calls) else elim (values.symbols name) [
+  | None ↦ None
+  | Some (Own kind text) ↦ Some text
+  | Some (Common kind) ↦ elim (values.texts name) [ None ↦ None | Some (other, text) ↦ Some text ]
+]
 
 -- ---- what symbols hold
 

@@ -1,3 +1,4 @@
 pub mod VisitLaws
 pub mod ExpansionProofs
 pub mod Unanswered
+pub mod Steps

@@ -3,7 +3,8 @@ use Rattle.std.proofs.Common.{◌≡◌, ℕ, List, Result, Ok, Err, IfOk, refl,
 use Rattle.macro_meaning.specs.declared.faults.MacroCause.{MacroCause}
 use Rattle.macro_meaning.specs.declared.faults.MacroCause.TheVariants.{LineTooLong, TooManyLines, NoSuchSymbol, BadSetting, BadArguments, NoSequenceSymbol, Unclosed, Counter, TooNested, Noted, Memory}
 use Rattle.macro_meaning.specs.declared.faults.MacroFault.{MacroFault}
-use Rattle.macro_meaning.specs.Expansion.{IsFirstFault, IsFaultFor, IsMacroFault}
+use Rattle.macro_meaning.specs.Expansion.{IsFirstFault, IsMacroFault}
+use Rattle.macro_meaning.specs.laws.Steps.{IsFaultFor}
 use Rattle.omf_making.specs.declared.making.Making.{Making}
 use Rattle.omf_commands.specs.Assemble.{following_first}
 use Rattle.omf_making.specs.Made.{Made, Bytes, Refusal, made_of, first_of}

@@ -7,7 +7,8 @@ use Rattle.macro_meaning.specs.declared.faults.MacroCause.{MacroCause}
 use Rattle.macro_meaning.specs.declared.faults.MacroCause.TheVariants as macros_
 use Rattle.macro_meaning.specs.declared.faults.MacroFault.{MacroFault}
 use Rattle.macro_meaning.specs.Expansion as expansion
-use Rattle.macro_meaning.specs.Expansion.{IsExpanded, IsFaultFor}
+use Rattle.macro_meaning.specs.Expansion.{IsExpanded}
+use Rattle.macro_meaning.specs.laws.Steps.{IsFaultFor}
 use Rattle.asm_meaning.specs.declared.faults.AsmCause.{AsmCause}
 use Rattle.asm_meaning.specs.declared.faults.AsmCause.TheVariants.{Memory, Unclosed}
 use Rattle.asm_meaning.specs.declared.faults.AsmFault.{AsmFault}

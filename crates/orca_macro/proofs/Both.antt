@@ -16,8 +16,8 @@ use Rattle.orca_macro.specs.declared.effect.Effect.{Effect}
 use Rattle.orca_macro.specs.EffectView.{effect_view}
 use Rattle.macro_meaning.specs.declared.faults.MacroCause.{MacroCause}
 use Rattle.macro_meaning.specs.declared.faults.MacroCause.TheVariants.{BadSetting}
-use Rattle.macro_meaning.specs.Effect as meaning
-use Rattle.macro_meaning.specs.Effect.{SymbolSetting, pair_or_earlier_fault, or_bad, going, IsBranchIf, operation_or_anop, IsDone, IsDoneBy, IsStatement, IsShort, IsWithTexts, IsWritten, IsEffect}
+use Rattle.macro_meaning.specs.Effect.{SymbolSetting, pair_or_earlier_fault, or_bad, operation_or_anop, IsDone, IsStatement, IsEffect}
+use Rattle.macro_meaning.specs.laws.Steps.{going, IsBranchIf, IsDoneBy, IsShort, IsWithTexts, substituted_line, IsWritten}
 
 -- the second one, where the first can only be BadSetting
 pub second_fault : {A B : Type 0} (found : Option A) (cause : MacroCause) → pair_or_earlier_fault {A = A} {B = B} (or_bad found) (Err cause) ≡ Err cause
@@ -50,7 +50,7 @@ pub plain_is : (s : SymbolSetting) (l : Line) (text : List ℕ) (d : meaning.Eff
     → IsShort s l (nat_lt 255 (length text)) text d → IsEffect s l d
 plain_is s l text d same other plain short =
     let whole_match : plain_len l.text ≡ length l.text = subst (λ (t : List ℕ). plain_len t ≡ length t) same (eqb-true (plain_len text) (length text) plain) in
-    let shown_is : meaning.substituted_line s.values l ≡ Some text = plain_text (text_of s.values) (naming_at l.text l.fields) l.text whole_match ∙ ap (λ (t : List ℕ). Some t) (sym same) in
+    let shown_is : substituted_line s.values l ≡ Some text = plain_text (text_of s.values) (naming_at l.text l.fields) l.text whole_match ∙ ap (λ (t : List ℕ). Some t) (sym same) in
     let not_comment : is_comment l.text ≡ false = ap is_comment (sym same) ∙ other in
     subst (λ (b : Bool). IsWritten s l b d) (sym not_comment) (subst (λ (o : Option (List ℕ)). IsWithTexts s l o d) (sym shown_is) short)
 

@@ -3,7 +3,8 @@ use Rattle.std.proofs.Common.{◌≡◌, ◌≤◌, ◌<◌, ◌+◌, ℕ, zero,
 use Rattle.std.specs.Prelude.{bytes_eq, slice_get}
 use Rattle.std.specs.Cmp.Lexicographic.{bytes_decides}
 use Rattle.std.proofs.lemmas.List.{length-take}
-use Rattle.macro_meaning.specs.Definition.{MacroDefinition, first_named, next_place, or_else}
+use Rattle.macro_meaning.specs.Definition.{MacroDefinition, first_named, or_else}
+use Rattle.macro_meaning.specs.laws.Steps.{next_place}
 use Rattle.orca_macro.proofs.Targets.{take_next}
 
 -- a name that is there keeps its place

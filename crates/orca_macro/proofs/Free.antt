@@ -20,14 +20,15 @@ use Rattle.macro_meaning.specs.declared.statements.Declaration.TheVariants.{Loca
 use Rattle.macro_meaning.specs.declared.statements.Statement.{Statement}
 use Rattle.macro_meaning.specs.declared.statements.Statement.TheVariants.{Declare, Set, Middle, BranchIf, Branch, Count, Nothing, Leave, Note, Define}
 use Rattle.macro_meaning.specs.Call.{bound_arguments, names_count}
-use Rattle.macro_meaning.specs.Condition.{Answer, answer_of, number_of, symbol_environment, is_declared, IsNumber, Formula, NoFormula, IsCondition, IsConditionBy, comparison}
-use Rattle.macro_meaning.specs.Effect.{Effect, NoEffect, Emit, DeclareSymbol, SetSymbol, BranchTo, SetCounter, Exit, CallMacro, Fail, SymbolSetting, earlier, pair_or_earlier_fault, or_bad, redeclaration_effect, first_time, or_effect, declaring, of_kind, settable, set_to, setting, printed_answer, middle_from, middle_of, going, going_to, counting, noting, IsBranchIf, IsMiddle, IsNote, IsSetting, IsDone, resting, call_effect, calling_if, calling_at, IsDoneBy, operation_or_anop, IsAfterCut, without_sequence_symbol, IsAfterText, begins_definition, IsShort, IsWithTexts, substituted_line, IsWritten, IsEffect}
-use Rattle.macro_meaning.specs.Definition.{MacroDefinition, DefinitionPart, Plain, Closed, Open, Model, model_of, model_fault, part_fault, first_part_fault, or_else, first_named, is_visible_in}
+use Rattle.macro_meaning.specs.Condition.{Answer, answer_of, symbol_environment, IsNumber, Formula, NoFormula, IsCondition, comparison}
+use Rattle.macro_meaning.specs.Effect.{Effect, NoEffect, Emit, DeclareSymbol, SetSymbol, BranchTo, SetCounter, Exit, CallMacro, Fail, SymbolSetting, pair_or_earlier_fault, or_bad, first_time, declaring, settable, setting, middle_from, IsMiddle, IsSetting, IsDone, calling_at, operation_or_anop, without_sequence_symbol, IsAfterText, IsEffect}
+use Rattle.macro_meaning.specs.Definition.{MacroDefinition, DefinitionPart, Plain, Closed, Open, Model, model_of, part_fault, first_part_fault, or_else, first_named}
 use Rattle.macro_meaning.specs.Expansion.{line_fault_of, file_parts, file_part_fault, first_in, first_of_files, next_file, StopsAt}
 use Rattle.macro_meaning.specs.Pieces.{pieces, unquoted_text, joined_texts}
 use Rattle.macro_meaning.specs.Statements.{symbol_name, target_name}
 use Rattle.macro_meaning.specs.Symbol.{Symbol, Symbols, Values, is_count, kind_of, declaration_of, is_kind, is_declaration}
-use Rattle.macro_meaning.specs.Visit.{MacroProgram, Visit, Move, On, Ends, Stops, IsVisitOf, IsVisitAt, IsVisit, Follow, line_at, if_line, next_visit, visit_after_call, move_after_expansion, next_line, branch_to, target_of, body_of, call_of, move_of, visit_after, setting_of, most_visits, first_visit}
+use Rattle.macro_meaning.specs.Visit.{MacroProgram, Visit, Move, On, Ends, Stops, IsVisit, Follow, line_at, if_line, move_after_expansion, next_line, target_of, body_of, call_of, move_of, visit_after, setting_of, most_visits, first_visit}
+use Rattle.macro_meaning.specs.laws.Steps.{number_of, is_declared, IsConditionBy, earlier, declared_again, of_kind, set_to, printed_answer, middle_of, going, going_to, counting, noting, IsBranchIf, IsNote, resting, call_effect, calling_if, IsDoneBy, IsAfterCut, begins_definition, IsShort, IsWithTexts, substituted_line, IsWritten, model_fault, is_visible_in, IsVisitOf, IsVisitAt, next_visit, visit_after_call, branch_to}
 
 unfoldable pub is_memory : MacroCause → Bool
 is_memory LineTooLong = false
@@ -139,7 +140,7 @@ declaring_free values declaration (Some name) = cond_effect (is_count name) _ _ 
     by_text (Shared kind) None = tt
     by_text (Shared kind) (Some x) = cond_effect (is_kind kind x.0) _ _ tt bad_free
 
-    by_symbol : (o : Option Symbol) → EffectFree (or_effect (redeclaration_effect name declaration o) (first_time name declaration (values.texts name)))
+    by_symbol : (o : Option Symbol) → EffectFree (declared_again declaration o (first_time name declaration (values.texts name)))
     by_symbol None = by_text declaration (values.texts name)
     by_symbol (Some s) = cond_effect (is_declaration declaration (declaration_of s)) _ _ tt bad_free
 

@@ -4,12 +4,12 @@ use Rattle.std.specs.Prelude.{codes, not}
 use Rattle.orca_meaning.specs.Characters.{folded}
 use Rattle.orca_meaning.specs.Line.{LineFields, Line, part, three_fields, fields_of, is_comment}
 use Rattle.macro_meaning.specs.Effect as meaning
-use Rattle.macro_meaning.specs.Effect.{SymbolSetting, IsAfterCut, IsEffect, IsDoneBy, IsStatement, calling_at, without_sequence_symbol, operation_or_anop, resting}
+use Rattle.macro_meaning.specs.Effect.{SymbolSetting, IsEffect, IsStatement, calling_at, without_sequence_symbol, operation_or_anop}
 use Rattle.macro_meaning.specs.Definition.{MacroDefinition, operation_is, first_named}
-use Rattle.macro_meaning.specs.Statements.{is_operation}
 use Rattle.macro_meaning.specs.Substitution.{first_passes}
 use Rattle.macro_meaning.specs.Symbol.{SharedTexts}
-use Rattle.macro_meaning.specs.Visit.{MacroProgram, Visit, given_by, move_of, next_line}
+use Rattle.macro_meaning.specs.Visit.{MacroProgram, Visit, move_of, next_line}
+use Rattle.macro_meaning.specs.laws.Steps.{IsAfterCut, IsDoneBy, resting, is_operation, given_by}
 use Rattle.macro_meaning.specs.declared.statements.Statement.{Statement}
 use Rattle.macro_meaning.specs.declared.statements.Statement.TheVariants.{Nothing}
 use Rattle.orca_symbols.specs.Plain.{plain_len}

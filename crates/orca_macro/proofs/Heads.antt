@@ -8,9 +8,11 @@ use Rattle.std.proofs.lemmas.List.Folds.{prefix_len-append, list_all-append}
 use Rattle.std.proofs.lemmas.List.Sums.{prefix_len-le-length}
 use Rattle.orca_meaning.specs.declared.lines.Span.{Span}
 use Rattle.orca_meaning.specs.Characters.{is_blank, folded}
-use Rattle.orca_meaning.specs.Line.{LineFields, Line, part, three_fields, is_comment, is_ink, next_blank, next_ink, span}
+use Rattle.orca_meaning.specs.Line.{LineFields, Line, part, three_fields, is_comment, next_blank, next_ink, span}
+use Rattle.orca_meaning.specs.laws.Steps.{is_ink}
 use Rattle.macro_meaning.specs.declared.statements.Statement.{Statement}
-use Rattle.macro_meaning.specs.Effect.{SymbolSetting, without_sequence_symbol, operation_or_anop, IsDone, IsDoneBy, IsStatement, IsAfterCut, IsAfterText, IsShort, begins_definition, calling_at}
+use Rattle.macro_meaning.specs.Effect.{SymbolSetting, without_sequence_symbol, operation_or_anop, IsDone, IsStatement, IsAfterText, calling_at}
+use Rattle.macro_meaning.specs.laws.Steps.{IsDoneBy, IsAfterCut, IsShort, begins_definition}
 use Rattle.macro_meaning.specs.Definition.{first_named}
 use Rattle.macro_meaning.specs.Statements.{statement_of, sequence_name}
 use Rattle.orca_macro.specs.EffectView.{effect_view}

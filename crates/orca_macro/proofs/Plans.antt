@@ -4,7 +4,8 @@ use Rattle.std.specs.Prelude.{Result, Ok, Err, IfOk, nat_lt, slice_get, codes}
 use Rattle.std.proofs.lemmas.Bool.{le-ltb, eqb-true}
 use Rattle.orca_meaning.specs.Line.{LineFields, Line, part, three_fields, is_comment}
 use Rattle.macro_meaning.specs.Effect as meaning
-use Rattle.macro_meaning.specs.Effect.{SymbolSetting, IsStatement, IsEffect, IsShort, IsAfterText, IsAfterCut, IsWritten, IsWithTexts, begins_definition, without_sequence_symbol}
+use Rattle.macro_meaning.specs.Effect.{SymbolSetting, IsStatement, IsEffect, IsAfterText, without_sequence_symbol}
+use Rattle.macro_meaning.specs.laws.Steps.{IsShort, IsAfterCut, IsWritten, IsWithTexts, begins_definition}
 use Rattle.macro_meaning.specs.Definition.{operation_is}
 use Rattle.macro_meaning.specs.Statements.{statement_of}
 use Rattle.macro_meaning.specs.Substitution.{naming_at, substituted_from}

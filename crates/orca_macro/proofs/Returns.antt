@@ -2,7 +2,8 @@
 use Rattle.std.proofs.Common.{◌≡◌, ℕ, zero, suc, ◌+◌, List, [], ◌∷◌, Option, Some, None, refl, sym, ap, subst, ◌∙◌}
 use Rattle.std.specs.Prelude.{slice_get}
 use Rattle.orca_meaning.specs.Line.{Line}
-use Rattle.macro_meaning.specs.Visit.{MacroProgram, Visit, On, Ends, line_at, visit_after_call, if_line, move_after_expansion}
+use Rattle.macro_meaning.specs.Visit.{MacroProgram, Visit, On, Ends, line_at, if_line, move_after_expansion}
+use Rattle.macro_meaning.specs.laws.Steps.{visit_after_call}
 use Rattle.orca_symbols.specs.Frame.{Frame}
 use Rattle.orca_macro.specs.Stacks.{Stacks, HasRoot, IsBack}
 

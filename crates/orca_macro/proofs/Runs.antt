@@ -9,7 +9,8 @@ use Rattle.macro_meaning.specs.declared.faults.MacroFault.{MacroFault}
 use Rattle.macro_meaning.specs.Call.{no_symbols}
 use Rattle.macro_meaning.specs.Effect.{Effect, IsEffect}
 use Rattle.macro_meaning.specs.Expansion.{HasVisits, fault_at}
-use Rattle.macro_meaning.specs.Visit.{MacroProgram, Visit, Move, Ends, Stops, line_at, setting_of, given_by, move_of, most_visits, IsVisitOf, IsVisitAt, IsVisit, Follow, no_texts, first_visit}
+use Rattle.macro_meaning.specs.Visit.{MacroProgram, Visit, Move, Ends, Stops, line_at, setting_of, move_of, most_visits, IsVisit, Follow, no_texts, first_visit}
+use Rattle.macro_meaning.specs.laws.Steps.{given_by, IsVisitOf, IsVisitAt}
 use Rattle.orca_symbols.specs.declared.frames.ExpansionState.{ExpansionState}
 use Rattle.orca_macro.specs.declared.visits.Flow.TheVariants as outcomes
 use Rattle.orca_macro.specs.Files.{IsStopped}

@@ -8,7 +8,8 @@ use Rattle.macro_meaning.specs.declared.faults.MacroFault.{MacroFault}
 use Rattle.macro_meaning.specs.declared.faults.MacroCause.{MacroCause}
 use Rattle.macro_meaning.specs.declared.faults.MacroCause.TheVariants.{Unclosed, BadArguments}
 use Rattle.macro_meaning.specs.Definition as meaning
-use Rattle.macro_meaning.specs.Definition.{DefinitionPart, Plain, Closed, Open, Begun, Model, operation_is, parts_of, source_line, definitions_in, definition_of, definition_from, definition_by, counts_after, first_part_fault, part_fault, model_fault, model_of, list_of_option, or_else}
+use Rattle.macro_meaning.specs.Definition.{DefinitionPart, Plain, Closed, Open, Begun, Model, operation_is, parts_of, source_line, definitions_in, definition_of, definition_from, first_part_fault, part_fault, model_of, list_of_option, or_else}
+use Rattle.macro_meaning.specs.laws.Steps.{definition_by, counts_after, model_fault}
 use Rattle.macro_meaning.specs.Expansion.{fault_at, line_fault_of}
 use Rattle.orca_macro.specs.declared.definitions.MacroDefinition.{MacroDefinition}
 use Rattle.orca_macro.specs.Parts.{definition, IsBegun, Judged, IsScanned, open_lines, Scanned}

@@ -11,7 +11,8 @@ use Rattle.macro_meaning.specs.Call.{no_symbols}
 use Rattle.macro_meaning.specs.Effect as meaning
 use Rattle.macro_meaning.specs.Definition.{operation_is, first_named}
 use Rattle.macro_meaning.specs.Expansion.{HasVisits, IsExpanded, file_text_fault, first_in}
-use Rattle.macro_meaning.specs.Visit.{MacroProgram, Visit, Move, On, Ends, given_by, move_of, next_line, move_after_expansion, if_line, most_visits, setting_of, IsVisit, IsVisitAt, Follow, no_texts}
+use Rattle.macro_meaning.specs.Visit.{MacroProgram, Visit, Move, On, Ends, move_of, next_line, move_after_expansion, if_line, most_visits, setting_of, IsVisit, Follow, no_texts}
+use Rattle.macro_meaning.specs.laws.Steps.{given_by, IsVisitAt}
 use Rattle.orca_macro.specs.Files.{texts_of_files, lines_from, first_part_in, definitions_of, IsProgram}
 use Rattle.orca_macro.specs.Parts.{HaveOwn}
 use Rattle.orca_macro.specs.Untouched.{IsUntouched, AreUntouched}

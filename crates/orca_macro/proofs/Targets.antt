@@ -2,7 +2,8 @@
 use Rattle.std.proofs.Common.{◌≡◌, ℕ, zero, suc, ◌+◌, Bool, true, false, cond, List, [], ◌∷◌, ◌++◌, length, take, Option, Some, None, refl, sym, ap, ◌∙◌, arith}
 use Rattle.std.specs.Prelude.{slice_get}
 use Rattle.orca_meaning.specs.Line.{Line}
-use Rattle.macro_meaning.specs.Visit.{places_from, only_one, has_sequence}
+use Rattle.macro_meaning.specs.Visit.{places_from, has_sequence}
+use Rattle.macro_meaning.specs.laws.Steps.{only_one}
 use Rattle.orca_macro.specs.declared.body.BranchTarget.{BranchTarget}
 use Rattle.orca_macro.specs.declared.body.BranchTarget.TheVariants.{Once, Twice}
 use Rattle.orca_macro.specs.DefinitionView.{summary, with_place}

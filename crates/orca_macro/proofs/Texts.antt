@@ -8,7 +8,9 @@ use Rattle.std.specs.Prelude.{Ok, Err, ◌||◌, unsigned_abs}
 use Rattle.orca_meaning.specs.Quotes.{quote_following}
 use Rattle.macro_meaning.specs.declared.faults.MacroCause.TheVariants.{BadSetting}
 use Rattle.macro_meaning.specs.Effect.{middle_from}
-use Rattle.macro_meaning.specs.Pieces.{pieces_from, pieces, parts, open_after, with_byte, closed_at, quoted_at, unquoted_text, whole_quoted_text, joined_texts, appended_texts}
+use Rattle.macro_meaning.specs.Pieces.{pieces_from, pieces, parts, open_after, closed_at, quoted_at, unquoted_text, joined_texts}
+use Rattle.macro_meaning.specs.Statements.{whole_match}
+use Rattle.macro_meaning.specs.laws.Steps.{with_byte, appended_texts}
 
 -- how many bytes pieces have
 total : List (List ℕ) → ℕ
@@ -60,7 +62,7 @@ quoted_at_short (quote ∷ following) x rest is = by_test (eqb quote 0x27 || eqb
 quoted_short : (p a : List ℕ) → unquoted_text p ≡ Some a → length a ≤ length p
 quoted_short p a is = by_found (quoted_at p) refl is
   where
-    by_found : (o : Option (List ℕ × List ℕ)) → quoted_at p ≡ o → whole_quoted_text o ≡ Some a → length a ≤ length p
+    by_found : (o : Option (List ℕ × List ℕ)) → quoted_at p ≡ o → whole_match o ≡ Some a → length a ≤ length p
     by_found None found is = absurd cc
     by_found (Some (x, [])) found is = let same : x ≡ a = cc in omega (arith, quoted_at_short p x [] found, ap length same)
     by_found (Some (x, byte ∷ rest)) found is = absurd cc

@@ -9,7 +9,8 @@ use Rattle.macro_meaning.specs.declared.faults.MacroCause.{MacroCause}
 use Rattle.macro_meaning.specs.declared.faults.MacroCause.TheVariants.{LineTooLong, TooManyLines, NoSuchSymbol, BadSetting, BadArguments, NoSequenceSymbol, Unclosed, Counter, TooNested, Noted, Memory}
 use Rattle.macro_meaning.specs.declared.faults.MacroFault.{MacroFault}
 use Rattle.macro_meaning.specs.Definition.{MacroDefinition, DefinitionPart, parts_of, definitions_in, source_body, source_line, first_part_fault, or_else}
-use Rattle.macro_meaning.specs.Expansion.{line_fault_of, next_file, HasVisits, StopsAt, file_text_fault, file_part_fault, first_in, macros_in, program_of, first_of_files, IsExpanded, IsFirstFault, InDefinition, InVisit, IsFaultFor, IsMacroFault, AreGoodFiles}
+use Rattle.macro_meaning.specs.Expansion.{line_fault_of, next_file, HasVisits, StopsAt, file_text_fault, file_part_fault, first_in, macros_in, program_of, first_of_files, IsExpanded, IsFirstFault, InDefinition, InVisit, IsMacroFault, AreGoodFiles}
+use Rattle.macro_meaning.specs.laws.Steps.{IsFaultFor}
 use Rattle.macro_meaning.specs.Visit.{MacroProgram, Ends}
 use Rattle.orca_macro.specs.Parts.{HaveOwn}
 use Rattle.orca_macro.proofs.Free.{is_memory, parts_free, stops_free}

@@ -4,7 +4,8 @@ ghost use Rattle.std.specs.Prelude.{◌≡◌, ◌≤◌, ◌<◌, ◌+◌, ◌-
 ghost use Rattle.std.specs.List.{list_any};
 ghost use Rattle.orca_meaning.specs.Line.{HaveFields, fields_of};
 ghost use Rattle.orca_meaning.specs.Line as meaning;
-ghost use Rattle.macro_meaning.specs.Definition.{operation_is, parts_of, source_line, definitions_in, first_part_fault, definition_of, part_fault, Closed, counts_after};
+ghost use Rattle.macro_meaning.specs.Definition.{operation_is, parts_of, source_line, definitions_in, first_part_fault, definition_of, part_fault, Closed};
+ghost use Rattle.macro_meaning.specs.laws.Steps.{counts_after};
 ghost use Rattle.macro_meaning.specs.Expansion.{fault_at, line_fault_of};
 ghost use Rattle.macro_meaning.specs.Definition as macros;
 ghost use Rattle.std.specs.Prelude.{Bool};

@@ -1,7 +1,8 @@
 //! What the statements of conditional assembly do (ORCA/M reference manual, "Conditional assembly directives").
 
 ghost use Rattle.std.specs.Prelude.{◌≡◌, ◌==◌, ◌≤◌, ◌<◌, [], length, take, drop, Some, None, Ok, Err, IfOk, IsTrue, false};
-ghost use Rattle.macro_meaning.specs.Effect.{earlier, pair_or_earlier_fault, or_bad, first_time, declaring, settable, setting, printed_number, printed_answer, middle_from, middle_of, going, going_to, counting, note_effect, noting, IsBranchIf, IsMiddle, IsNote, IsSetting, IsDone, resting};
+ghost use Rattle.macro_meaning.specs.Effect.{pair_or_earlier_fault, or_bad, first_time, declaring, settable, setting, middle_from, IsMiddle, IsSetting, IsDone};
+ghost use Rattle.macro_meaning.specs.laws.Steps.{earlier, printed_number, printed_answer, middle_of, going, going_to, counting, note_effect, noting, IsBranchIf, IsNote, resting};
 ghost use Rattle.macro_meaning.specs.Pieces.{pieces, unquoted_text, joined_texts};
 ghost use Rattle.orca_symbols.specs.View.{values, texts_of};
 ghost use Rattle.orca_macro.specs.EffectView.{effect_view};

@@ -2,7 +2,8 @@
 
 ghost use Rattle.std.specs.Prelude.{◌≡◌, ◌≤◌, ◌<◌, ◌+◌, ◌^◌, [], List, ℕ, length, take, map, slice_get, bytes_eq, Some, None, IfOk, IfSome, OnOk, MatchOption, if◌then◌else◌, is_some};
 ghost use Rattle.macro_meaning.specs.Definition.{first_named, or_else};
-ghost use Rattle.macro_meaning.specs.Visit.{line_at, body_of, no_body, target_of};
+ghost use Rattle.macro_meaning.specs.Visit.{line_at, body_of, target_of};
+ghost use Rattle.macro_meaning.specs.laws.Steps.{no_body};
 ghost use Rattle.orca_meaning.specs.Line.{HaveFields, fields_of};
 ghost use Rattle.orca_symbols.specs.Held.{value_of_name};
 ghost use Rattle.orca_macro.specs.Parts.{definition};

@@ -1,7 +1,8 @@
 //! What a visited line does (ORCA/M reference manual, "Conditional assembly directives").
 
 ghost use Rattle.std.specs.Prelude.{IsTrue, ◌≡◌, ◌==◌, ◌<◌, nat_lt, length, take, slice_get, Some, None, Ok, IfOk, MatchOption, false};
-ghost use Rattle.macro_meaning.specs.Effect.{calling_if, calling_at, begins_definition, IsEffect, IsStatement, IsShort, without_sequence_symbol};
+ghost use Rattle.macro_meaning.specs.Effect.{calling_at, IsEffect, IsStatement, without_sequence_symbol};
+ghost use Rattle.macro_meaning.specs.laws.Steps.{calling_if, begins_definition, IsShort};
 ghost use Rattle.macro_meaning.specs.Substitution.{first_passes};
 ghost use Rattle.orca_symbols.specs.View.{values};
 ghost use Rattle.orca_macro.specs.EffectView.{effect_view, where_};

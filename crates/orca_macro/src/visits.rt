@@ -2,7 +2,8 @@
 
 ghost use Rattle.std.specs.Prelude.{◌≡◌, ◌≤◌, ◌<◌, ◌+◌, ◌^◌, ◌∷◌, ◌++◌, [], List, ℕ, Option, length, Some, None, IfOk, OnOk, IfSome, MatchOption};
 ghost use Rattle.macro_meaning.specs.Symbol.{SharedTexts};
-ghost use Rattle.macro_meaning.specs.Visit.{Visit, On, Ends, MacroProgram, move_after_expansion, next_line, line_at, root_by, branch_to, call_of, target_of, body_of, move_of, shared_first};
+ghost use Rattle.macro_meaning.specs.Visit.{Visit, On, Ends, MacroProgram, move_after_expansion, next_line, line_at, root_by, call_of, target_of, body_of, move_of, shared_first};
+ghost use Rattle.macro_meaning.specs.laws.Steps.{branch_to};
 ghost use Rattle.macro_meaning.specs.Effect as effects;
 ghost use Rattle.orca_meaning.specs.Line as meaning;
 ghost use Rattle.orca_symbols.specs.Changes.{IsDeclared, IsAssigned};

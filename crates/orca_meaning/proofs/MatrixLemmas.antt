@@ -9,7 +9,8 @@ use Rattle.orca_meaning.specs.contracts.modes.Mode as mode_type
 use Rattle.orca_meaning.specs.declared.mnemonics.Mnemonic.{Mnemonic}
 use Rattle.orca_meaning.specs.declared.modes.Mode.{Mode}
 use Rattle.orca_meaning.specs.MatrixLaws.{NoneTwice}
-use Rattle.orca_meaning.specs.Matrix.{Instruction, is_instruction, matrix, opcode_of}
+use Rattle.orca_meaning.specs.Matrix.{Instruction, matrix, opcode_of}
+use Rattle.orca_meaning.specs.laws.Steps.{is_instruction}
 
 -- each byte is an opcode
 pub length-matrix : length matrix ≡ 256

@@ -109,14 +109,9 @@ pub record MeansAt (operands : Operands) (text : List ℕ) (tree : expression.Tr
   pub stands : StandsAt operands text formula rest
   pub means : tree_of formula ≡ tree
 
--- how many values are pending at once at an operand, where the location counter counts as a given number of them
-abbrev pub values_of : ℕ → expression.Term → ℕ
-values_of here expression.Location = here
-values_of _ _ = 1
-
--- the most values that are pending at once
+-- the most values that are pending at once, where the location counter counts as a given number of them
 abbrev pub pending : ℕ → expression.Tree → ℕ
-pending here (expression.Leaf term) = values_of here term
+pending here (expression.Leaf term) = elim term [ expression.Location ↦ here | _ ↦ 1 ]
 pending here (expression.Unary code operand) = pending here operand
 pending here (expression.Binary code left right) = max (pending here left) (pending here right + 1)
 
@@ -130,11 +125,6 @@ with_location_less back (expression.Leaf (expression.Offset n)) = expression.Lea
 with_location_less back (expression.Unary code operand) = expression.Unary code (with_location_less back operand)
 with_location_less back (expression.Binary code left right) = expression.Binary code (with_location_less back left) (with_location_less back right)
 
--- a number above 4,294,967,295
-abbrev pub is_large : expression.Term → Bool
-is_large (expression.Constant n) = nat_le (2 ^ 32) n
-is_large _ = false
-
--- whether such a number is in it
+-- whether a number above 4,294,967,295 is in it
 abbrev pub has_large : expression.Tree → Bool
-has_large tree = list_any is_large (expression.terms_of tree)
+has_large tree = list_any (λ term. elim term [ expression.Constant n ↦ nat_le (2 ^ 32) n | _ ↦ false ]) (expression.terms_of tree)

@@ -13,10 +13,6 @@ use Rattle.orca_meaning.specs.Operation.{operation_use}
 
 -- ---- fields
 
--- a byte that is no blank
-abbrev pub is_ink : ℕ → Bool
-is_ink byte = not (is_blank byte)
-
 -- a line that is blank, or begins with `*`, `;` or `!`
 abbrev pub is_comment : List ℕ → Bool
 is_comment [] = true
@@ -35,16 +31,12 @@ span from to = record { from = from; to = to }
 abbrev pub part : List ℕ → Span → List ℕ
 part text s = take (s.to - s.from) (drop s.from text)
 
--- the place of the first blank at a place or after it, of the first byte there that is none, and of the first blank there outside
--- quotes; the line's end where there is none
+-- the place of the first blank at a place or after it, and of the first byte there that is none; the line's end where there is none
 abbrev pub next_blank : List ℕ → ℕ → ℕ
 next_blank text at = at + position_or_len is_blank (drop at text)
 
 abbrev pub next_ink : List ℕ → ℕ → ℕ
-next_ink text at = at + position_or_len is_ink (drop at text)
-
-abbrev pub next_outside : List ℕ → ℕ → ℕ
-next_outside text at = at + outside_from is_blank None (drop at text)
+next_ink text at = at + position_or_len (λ byte. not (is_blank byte)) (drop at text)
 
 -- The label begins in column 1, and blanks separate the fields. The operand is the third field, and ends at the first blank
 -- outside quotes.
@@ -54,7 +46,7 @@ three_fields text =
     let operation = next_ink text label_end in
     let operation_end = next_blank text operation in
     let operand = next_ink text operation_end in
-    record { label = span 0 label_end; operation = span operation operation_end; operand = span operand (next_outside text operand) }
+    record { label = span 0 label_end; operation = span operation operation_end; operand = span operand (operand + outside_from is_blank None (drop operand text)) }
 
 -- the third field, or nothing where the operation takes no operand, or may lack it and a comment begins there
 abbrev pub operand_span : OperandUse → List ℕ → Span → Span
@@ -63,16 +55,12 @@ operand_span Accumulator text third = if slice_index text third.from == ascii.se
 operand_span Signature text third = if slice_index text third.from == ascii.semicolon then span third.from third.from else third
 operand_span Always text third = third
 
-abbrev pub statement_fields : List ℕ → LineFields → LineFields
-statement_fields text fields =
-    record fields { operand = operand_span (operation_use (part text fields.operation)) text fields.operand }
-
 -- a comment has no fields
-abbrev pub no_fields : LineFields
-no_fields = record { label = span 0 0; operation = span 0 0; operand = span 0 0 }
-
 unfoldable pub fields_of : List ℕ → LineFields
-fields_of text = if is_comment text then no_fields else statement_fields text (three_fields text)
+fields_of text =
+    let fields = three_fields text in
+    if is_comment text then record { label = span 0 0; operation = span 0 0; operand = span 0 0 }
+    else record fields { operand = operand_span (operation_use (part text fields.operation)) text fields.operand }
 
 -- ---- lines
 
@@ -99,13 +87,9 @@ line_fault number text =
     else None
 
 -- the first of these lines with a fault, the first of them having this number: its number and its cause
-abbrev pub or_later : ℕ → Option TextCause → Option (ℕ × TextCause) → Option (ℕ × TextCause)
-or_later number (Some cause) later = Some (number, cause)
-or_later number None later = later
-
 unfoldable pub first_line_fault : ℕ → List (List ℕ) → Option (ℕ × TextCause)
 first_line_fault number [] = None
-first_line_fault number (text ∷ texts) = or_later number (line_fault number text) (first_line_fault (number + 1) texts)
+first_line_fault number (text ∷ texts) = elim (line_fault number text) [ Some cause ↦ Some (number, cause) | None ↦ first_line_fault (number + 1) texts ]
 
 -- the spans lie in the text
 abbrev pub LiesIn : List ℕ → Span → Type 0

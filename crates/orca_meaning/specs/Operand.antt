@@ -16,7 +16,6 @@ use Rattle.orca_meaning.specs.declared.forms.Prefix.TheVariants.{Bare, Less, Bar
 use Rattle.orca_meaning.specs.declared.lines.TextCause.{TextCause}
 use Rattle.orca_meaning.specs.declared.lines.TextCause.TheVariants.{LineTooLong, TooManyLines, BadOperand, BadNumber, Memory}
 use Rattle.orca_meaning.specs.declared.mnemonics.Mnemonic.{Mnemonic}
-use Rattle.orca_meaning.specs.declared.forms.OperandUse.{OperandUse}
 use Rattle.orca_meaning.specs.declared.forms.OperandUse.TheVariants as uses
 use Rattle.orca_meaning.specs.declared.operators.Operands.TheVariants.{Labels}
 use Rattle.orca_meaning.specs.Characters.{folded}
@@ -25,46 +24,19 @@ use Rattle.orca_meaning.specs.Operation.{use_of}
 
 -- ---- before the formula
 
--- `#` and `[` open an operand, and `(` where the operation is an instruction; elsewhere `(` belongs to the formula
-abbrev pub opening_of : Bool → List ℕ → Opening
-opening_of is_instruction [] = Open
-opening_of is_instruction (byte ∷ following) =
-    if byte == ascii.number_sign then Hash
-    else if byte == ascii.opening_round && is_instruction then Round
-    else if byte == ascii.opening_square then Square
-    else Open
-
 abbrev pub after_opening : Opening → List ℕ → List ℕ
 after_opening Open text = text
 after_opening Hash text = drop 1 text
 after_opening Round text = drop 1 text
 after_opening Square text = drop 1 text
 
--- `<`, `>` and `^` after `#`
-abbrev pub immediate_prefix : ℕ → Prefix
-immediate_prefix byte = if byte == ascii.less then Less else if byte == ascii.greater then Greater else if byte == ascii.caret then Caret else Bare
-
--- `<`, `>`, and `|` or `!` elsewhere
-abbrev pub address_prefix : ℕ → Prefix
-address_prefix byte =
-    if byte == ascii.less then Less else if byte == ascii.greater then Greater else if byte == ascii.bar || byte == ascii.exclamation then Bar else Bare
-
-abbrev pub prefix_by : Opening → ℕ → Prefix
-prefix_by Open byte = address_prefix byte
-prefix_by Hash byte = immediate_prefix byte
-prefix_by Round byte = address_prefix byte
-prefix_by Square byte = address_prefix byte
-
+-- `<`, `>` and `^` after `#`; `<`, `>`, and `|` or `!` elsewhere
 abbrev pub prefix_of : Opening → List ℕ → Prefix
 prefix_of opening [] = Bare
-prefix_of opening (byte ∷ following) = prefix_by opening byte
-
-abbrev pub after_prefix : Prefix → List ℕ → List ℕ
-after_prefix Bare text = text
-after_prefix Less text = drop 1 text
-after_prefix Bar text = drop 1 text
-after_prefix Greater text = drop 1 text
-after_prefix Caret text = drop 1 text
+prefix_of Hash (byte ∷ following) =
+    if byte == ascii.less then Less else if byte == ascii.greater then Greater else if byte == ascii.caret then Caret else Bare
+prefix_of _ (byte ∷ following) =
+    if byte == ascii.less then Less else if byte == ascii.greater then Greater else if byte == ascii.bar || byte == ascii.exclamation then Bar else Bare
 
 -- ---- after the formula
 
@@ -74,32 +46,24 @@ register_of letter =
     let capital = to_ascii_uppercase letter in
     if capital == ascii.capital_x then Some X else if capital == ascii.capital_y then Some Y else if capital == ascii.capital_s then Some S else None
 
-abbrev pub index_or : Option Index → List ℕ → List ℕ → Index × List ℕ
-index_or (Some index) text following = (index, following)
-index_or None text following = (Absent, text)
-
 -- the index at the start, a comma and a register, and what follows it
 unfoldable pub index_at : List ℕ → Index × List ℕ
 index_at [] = (Absent, [])
 index_at (byte ∷ []) = (Absent, byte ∷ [])
-index_at (comma ∷ letter ∷ following) =
-    index_or (if comma == ascii.comma then register_of letter else None) (comma ∷ letter ∷ following) following
+index_at (comma ∷ letter ∷ following) = elim (if comma == ascii.comma then register_of letter else None) [
+  | None ↦ (Absent, comma ∷ letter ∷ following)
+  | Some index ↦ (index, following)
+]
 
 -- the index of a whole text, if it is one or nothing
-abbrev pub index_alone : Index × List ℕ → Option Index
-index_alone (index, []) = Some index
-index_alone (index, byte ∷ following) = None
-
 unfoldable pub whole_index : List ℕ → Option Index
-whole_index text = index_alone (index_at text)
+whole_index text = let (index, rest) = index_at text in elim rest [ [] ↦ Some index | byte ∷ following ↦ None ]
 
 -- an index or none, the closing byte, and an index or none up to the end
-abbrev pub closed_by : ℕ → Index × List ℕ → Option (Index × Index)
-closed_by close (inner, []) = None
-closed_by close (inner, byte ∷ following) = if byte == close then option_map (λ outer. (inner, outer)) (whole_index following) else None
-
 unfoldable pub indexes_around : ℕ → List ℕ → Option (Index × Index)
-indexes_around close text = closed_by close (index_at text)
+indexes_around close text =
+    let (inner, rest) = index_at text in
+    elim rest [ [] ↦ None | byte ∷ following ↦ if byte == close then option_map (λ outer. (inner, outer)) (whole_index following) else None ]
 
 -- the forms by their indexes, those in and after the parentheses or brackets; what mnemonics have is listed first
 abbrev pub plain_form : Index → Form
@@ -120,14 +84,10 @@ square_form (Absent, Absent) = Bracket
 square_form (Absent, Y) = BracketY
 square_form _ = Other
 
-abbrev pub immediate_form : List ℕ → Option Form
-immediate_form [] = Some Immediate
-immediate_form (byte ∷ following) = None
-
 -- the form of an operand by its opening and what follows its formula
 abbrev pub form_after : Opening → List ℕ → Option Form
 form_after Open rest = option_map plain_form (whole_index rest)
-form_after Hash rest = immediate_form rest
+form_after Hash rest = elim rest [ [] ↦ Some Immediate | byte ∷ following ↦ None ]
 form_after Round rest = option_map round_form (indexes_around ascii.closing_round rest)
 form_after Square rest = option_map square_form (indexes_around ascii.closing_square rest)
 
@@ -139,26 +99,28 @@ pub record Meaning : Type 0 where
   pub prefix : Prefix
   pub trees : List Tree
 
-abbrev pub means_accumulator : OperandUse → Bool
-means_accumulator uses.Never = false
-means_accumulator uses.Accumulator = true
-means_accumulator uses.Signature = false
-means_accumulator uses.Always = false
-
 -- `A` alone, of a mnemonic with the accumulator mode
 abbrev pub is_accumulator : Option Mnemonic → List ℕ → Bool
-is_accumulator (Some mnemonic) text = means_accumulator (use_of mnemonic) && bytes_eq (folded text) (codes "A")
+is_accumulator (Some mnemonic) text = (elim (use_of mnemonic) [ uses.Accumulator ↦ true | _ ↦ false ]) && bytes_eq (folded text) (codes "A")
 is_accumulator None text = false
 
+-- `#` and `[` open an operand, and `(` where the operation is an instruction; elsewhere `(` belongs to the formula
 abbrev pub opening : Option Mnemonic → List ℕ → Opening
-opening mnemonic text = opening_of (is_some mnemonic) text
+opening mnemonic [] = Open
+opening mnemonic (byte ∷ following) =
+    if byte == ascii.number_sign then Hash
+    else if byte == ascii.opening_round && is_some mnemonic then Round
+    else if byte == ascii.opening_square then Square
+    else Open
 
 abbrev pub prefix : Option Mnemonic → List ℕ → Prefix
 prefix mnemonic text = prefix_of (opening mnemonic text) (after_opening (opening mnemonic text) text)
 
 -- where the formula begins
 abbrev pub body : Option Mnemonic → List ℕ → List ℕ
-body mnemonic text = after_prefix (prefix mnemonic text) (after_opening (opening mnemonic text) text)
+body mnemonic text =
+    let following = after_opening (opening mnemonic text) text in
+    elim (prefix mnemonic text) [ Bare ↦ following | _ ↦ drop 1 following ]
 
 -- what an operand's text is, in a line with this mnemonic or none
 pub data IsOperand (mnemonic : Option Mnemonic) (text : List ℕ) (meaning : Meaning) : Type 0 where
@@ -173,14 +135,9 @@ pub data IsOperand (mnemonic : Option Mnemonic) (text : List ℕ) (meaning : Mea
       → MeansAt Labels following second [] → meaning ≡ record { form = Pair; prefix = prefix mnemonic text; trees = first ∷ second ∷ [] }
       → IsOperand mnemonic text meaning
 
--- how many values the location counter counts: in an instruction it is written as two
-abbrev pub values_here : Option Mnemonic → ℕ
-values_here (Some mnemonic) = 2
-values_here None = 1
-
--- no formula has more than 64 pending values
+-- no formula has more than 64 pending values; the location counter counts as two in an instruction, which writes it so
 abbrev pub AreShallow : Option Mnemonic → List Tree → Type 0
-AreShallow mnemonic trees = AllByRecursion (λ tree. pending (values_here mnemonic) tree ≤ 64) trees
+AreShallow mnemonic trees = AllByRecursion (λ tree. pending (elim mnemonic [ Some of_line ↦ 2 | None ↦ 1 ]) tree ≤ 64) trees
 
 -- an operand with which nothing is wrong
 pub record IsGoodOperand (mnemonic : Option Mnemonic) (text : List ℕ) (meaning : Meaning) : Type 0 where

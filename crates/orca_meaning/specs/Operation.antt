@@ -64,14 +64,9 @@ use_of mnemonic =
 unfoldable pub without_operand : List (List ℕ)
 without_operand = codes "END" ∷ codes "ENTRY" ∷ codes "ANOP" ∷ codes "MACRO" ∷ codes "MEND" ∷ codes "MEXIT" ∷ []
 
--- how an operation that is no mnemonic uses its operand
-abbrev pub use_of_other : Bool → OperandUse
-use_of_other is_without = if is_without then Never else Always
-
-abbrev pub use_by : Option Mnemonic → List ℕ → OperandUse
-use_by (Some mnemonic) word = use_of mnemonic
-use_by None word = use_of_other (list_any (bytes_eq word) without_operand)
-
 -- what an operation does with its operand
 unfoldable pub operation_use : List ℕ → OperandUse
-operation_use operation = use_by (mnemonic_of operation) (folded operation)
+operation_use operation = elim (mnemonic_of operation) [
+  | Some mnemonic ↦ use_of mnemonic
+  | None ↦ if list_any (bytes_eq (folded operation)) without_operand then Never else Always
+]

@@ -1,5 +1,5 @@
 -- Quotes in a line: `'` and `"`. A blank or a comma in quotes is text.
-use Rattle.std.specs.Prelude.{ℕ, ◌+◌, Bool, true, false, ◌||◌, ◌&&◌, ◌==◌, List, [], ◌∷◌, Option, Some, None, if◌then◌else◌}
+use Rattle.std.specs.Prelude.{ℕ, ◌+◌, Bool, ◌||◌, ◌&&◌, ◌==◌, List, [], ◌∷◌, Option, Some, None, is_none, if◌then◌else◌}
 use Rattle.omf_format.specs.Ascii as ascii
 
 -- the quote that is open after a byte
@@ -7,15 +7,11 @@ abbrev pub quote_following : Option ℕ → ℕ → Option ℕ
 quote_following None byte = if byte == ascii.apostrophe || byte == ascii.double_quote then Some byte else None
 quote_following (Some quote) byte = if byte == quote then None else Some quote
 
-abbrev pub is_closed : Option ℕ → Bool
-is_closed None = true
-is_closed (Some quote) = false
-
 -- how many bytes are before the first outside quotes that passes the test, where this quote is open; all where none does
 unfoldable pub outside_from : (ℕ → Bool) → Option ℕ → List ℕ → ℕ
 outside_from test quote [] = 0
 outside_from test quote (byte ∷ following) =
-    if is_closed quote && test byte then 0 else outside_from test (quote_following quote byte) following + 1
+    if is_none quote && test byte then 0 else outside_from test (quote_following quote byte) following + 1
 
 -- the quote that is open after a text
 abbrev pub quote_after : Option ℕ → List ℕ → Option ℕ

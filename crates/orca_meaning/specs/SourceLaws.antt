@@ -1,10 +1,10 @@
 -- Laws of source lines, formulas and operands, in their own terms.
-use Rattle.std.specs.Prelude.{◌≡◌, ℕ, ◌<◌, ◌≤◌, Bool, true, false, ◌&&◌, List, [], ◌∷◌, ◌++◌, length, take, slice_index, ◌==◌, Option, None}
+use Rattle.std.specs.Prelude.{◌≡◌, ℕ, ◌<◌, ◌≤◌, Bool, true, false, ◌&&◌, List, [], ◌∷◌, ◌++◌, length, take, slice_index, ◌==◌, Option, None, is_none}
 use Rattle.omf_format.specs.Expression.{Tree, terms_of, terms_text, depth, IsExpression}
 use Rattle.omf_format.specs.Lines.{lines_of, HasNoEnd}
 use Rattle.orca_meaning.specs.declared.mnemonics.Mnemonic.{Mnemonic}
 use Rattle.orca_meaning.specs.declared.operators.Operands.{Operands}
-use Rattle.orca_meaning.specs.Quotes.{is_closed, outside_from, quote_after}
+use Rattle.orca_meaning.specs.Quotes.{outside_from, quote_after}
 use Rattle.orca_meaning.specs.Line.{three_fields, fields_of, HaveFields, AreParted}
 use Rattle.orca_meaning.specs.Formula.{MeansAt, pending, with_location_less, has_large}
 use Rattle.orca_meaning.specs.Operand.{Meaning, IsOperand}
@@ -39,8 +39,8 @@ FieldsPartLine = (text : List ℕ) → AreParted text (three_fields text)
 -- where a byte outside quotes is found, the test passes and no quote is open, and so at no byte before it
 abbrev pub OutsideIsFirst : Type 0
 OutsideIsFirst = (test : ℕ → Bool) (text : List ℕ) (k : ℕ) → k < length text
-    → (k < outside_from test None text → (is_closed (quote_after None (take k text)) && test (slice_index text k)) ≡ false)
-    × (k ≡ outside_from test None text → (is_closed (quote_after None (take k text)) && test (slice_index text k)) ≡ true)
+    → (k < outside_from test None text → (is_none (quote_after None (take k text)) && test (slice_index text k)) ≡ false)
+    × (k ≡ outside_from test None text → (is_none (quote_after None (take k text)) && test (slice_index text k)) ≡ true)
 
 -- ---- formulas
 

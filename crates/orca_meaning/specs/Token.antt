@@ -95,13 +95,12 @@ unfoldable pub location_at : List ℕ → Found Operand
 location_at [] = None
 location_at (byte ∷ following) = if byte == ascii.star then Some (Here, following) else None
 
--- the operand at the start that isn't a number
-abbrev pub other_operand_at : Operands → List ℕ → Found Operand
-other_operand_at Labels text = option_or (location_at text) (option_or (attribute_at name_at text) (seen_as Label (name_at text)))
-other_operand_at Symbols text = attribute_at symbol_at text
-
+-- the operand at the start
 unfoldable pub operand_at : Operands → List ℕ → Found Operand
-operand_at operands text = option_or (seen_as Number (number_at text)) (other_operand_at operands text)
+operand_at operands text = option_or (seen_as Number (number_at text)) (elim operands [
+  | Labels ↦ option_or (location_at text) (option_or (attribute_at name_at text) (seen_as Label (name_at text)))
+  | Symbols ↦ attribute_at symbol_at text
+])
 
 -- ---- operators
 
@@ -111,21 +110,15 @@ spelled_at [] text = None
 spelled_at (row ∷ rows) text =
     if bytes_eq row.0 (folded (take (length row.0) text)) then Some (row.1, drop (length row.0) text) else spelled_at rows text
 
-abbrev pub signs : List (List ℕ × Sign)
-signs = (codes "-", Negate) ∷ (codes ".NOT.", Not) ∷ []
+unfoldable pub sign_at : List ℕ → Found Sign
+sign_at text = spelled_at ((codes "-", Negate) ∷ (codes ".NOT.", Not) ∷ []) text
 
--- the longer spellings are listed first
-abbrev pub operators : List (List ℕ × Operator)
-operators =
+-- the operator between two operands at the start; the longer spellings are listed first
+unfoldable pub operator_at : List ℕ → Found Operator
+operator_at text = spelled_at (
     (codes "<=", LessOrEqual) ∷ (codes ">=", GreaterOrEqual) ∷ (codes "<>", NotEqual) ∷ (codes "<", Less) ∷ (codes ">", Greater) ∷
     (codes "=", Equal) ∷ (codes "*", Multiply) ∷ (codes "/", Divide) ∷ (codes "|", Shift) ∷ (codes "+", Add) ∷
-    (codes "-", Subtract) ∷ (codes ".AND.", And) ∷ (codes ".OR.", Or) ∷ (codes ".EOR.", Eor) ∷ []
-
-unfoldable pub sign_at : List ℕ → Found Sign
-sign_at text = spelled_at signs text
-
-unfoldable pub operator_at : List ℕ → Found Operator
-operator_at text = spelled_at operators text
+    (codes "-", Subtract) ∷ (codes ".AND.", And) ∷ (codes ".OR.", Or) ∷ (codes ".EOR.", Eor) ∷ []) text
 
 -- ---- tokens
 

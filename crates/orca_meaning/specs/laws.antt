@@ -6,3 +6,4 @@ pub mod Sound
 pub mod Front
 pub mod FormulaLaws
 pub mod OperandLaws
+pub mod Steps

@@ -7,7 +7,8 @@ use Rattle.std.proofs.lemmas.Bool.{ne_eqb}
 use Rattle.std.proofs.lemmas.List.Folds.{list_any_at}
 use Rattle.macro_meaning.specs.declared.statements.SymbolKind.TheVariants.{Text}
 use Rattle.macro_meaning.specs.Symbol.{Symbol, Own, Symbols, with_name}
-use Rattle.macro_meaning.specs.Call.{is_among, Binding, binding, keyword_from, by_place, or_place, bound_arguments, bound_once, bound_all, with_missing, complete, all_names, arguments, label_bound}
+use Rattle.macro_meaning.specs.Call.{Binding, binding, keyword_from, bound_arguments, bound_once, bound_all, with_missing, all_names, label_bound}
+use Rattle.macro_meaning.specs.laws.Steps.{is_among, by_place, or_place, complete, arguments}
 use Rattle.std.specs.List.{prefix_len}
 use Rattle.orca_meaning.specs.Characters.{is_name_start, is_name_byte, folded}
 use Rattle.orca_meaning.specs.Token.{name_at}

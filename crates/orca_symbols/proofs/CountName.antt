@@ -2,7 +2,8 @@
 use Rattle.std.proofs.Common.{◌≡◌, ◌≢◌, ℕ, Bool, true, false, List, length, refl, sym, ap}
 use Rattle.std.specs.Prelude.{bytes_eq}
 use Rattle.std.specs.Cmp.Lexicographic.{bytes_decides}
-use Rattle.macro_meaning.specs.Symbol.{is_count, count_name}
+use Rattle.macro_meaning.specs.Symbol.{is_count}
+use Rattle.macro_meaning.specs.laws.Steps.{count_name}
 
 pub other_length : (name : List ℕ) → length name ≢ 6 → false ≡ is_count name
 other_length name other = by_test (bytes_eq count_name name) refl

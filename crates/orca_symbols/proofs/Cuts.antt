@@ -2,7 +2,7 @@
 use Rattle.std.proofs.Common.{◌≡◌, ℕ, zero, suc, ◌-◌, Bool, false, cond, take, eqb, List, [], ◌∷◌, None, refl, ap}
 use Rattle.orca_meaning.specs.Line.{three_fields}
 use Rattle.orca_meaning.specs.Token.{name_at}
-use Rattle.macro_meaning.specs.Statements.{after_dot}
+use Rattle.macro_meaning.specs.laws.Steps.{after_dot}
 use Rattle.macro_meaning.specs.Substitution.{first_passes}
 use Rattle.macro_meaning.specs.Effect.{without_sequence_symbol}
 

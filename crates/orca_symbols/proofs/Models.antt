@@ -1,7 +1,8 @@
 -- The names of parameters.
 use Rattle.std.proofs.Common.{◌≡◌, ◌≤◌, ◌+◌, ℕ, List, [], ◌∷◌, ◌++◌, length, Option, Some, None, refl, sym, ap, ◌∙◌, append_assoc, append-nil}
 use Rattle.std.specs.Prelude.{slice_get, drop}
-use Rattle.macro_meaning.specs.Definition.{one_more, names_of}
+use Rattle.macro_meaning.specs.Definition.{names_of}
+use Rattle.macro_meaning.specs.laws.Steps.{one_more}
 use Rattle.macro_meaning.specs.Statements.{symbol_name}
 use Rattle.orca_symbols.proofs.Parted.{drop_next, drop_all}
 

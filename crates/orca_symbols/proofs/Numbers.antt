@@ -15,7 +15,8 @@ use Rattle.orca_meaning.specs.declared.operators.Operands.TheVariants.{Symbols}
 use Rattle.orca_meaning.specs.Formula.{MeansAt, has_large}
 use Rattle.orca_meaning.specs.laws.FormulaLaws.{formed, one_tree, pending-one}
 use Rattle.macro_meaning.specs.declared.faults.MacroCause.TheVariants.{NoSuchSymbol, BadSetting}
-use Rattle.macro_meaning.specs.Condition.{Answer, symbol_environment, is_declared, number_of, answer_of, IsNumber, Formula, NoFormula}
+use Rattle.macro_meaning.specs.Condition.{Answer, symbol_environment, answer_of, IsNumber, Formula, NoFormula}
+use Rattle.macro_meaning.specs.laws.Steps.{is_declared, number_of}
 use Rattle.macro_meaning.specs.Symbol.{Values}
 use Rattle.orca_text.specs.FormulaAt.{IsFormulaAt, HasNoFormula}
 use Rattle.orca_text.specs.Kept.{kept_terms}

@@ -4,7 +4,8 @@ use Rattle.std.specs.Prelude.{position, slice_get}
 use Rattle.std.specs.List.{position_or_len}
 use Rattle.std.proofs.lemmas.List.{drop_more}
 use Rattle.orca_meaning.specs.Quotes.{quote_following}
-use Rattle.macro_meaning.specs.Pieces.{parts, open_after, with_byte, pieces_from, pieces, closed_at, unquoted_text, appended_texts, joined_texts}
+use Rattle.macro_meaning.specs.Pieces.{parts, open_after, pieces_from, pieces, closed_at, unquoted_text, joined_texts}
+use Rattle.macro_meaning.specs.laws.Steps.{with_byte, appended_texts}
 use Rattle.orca_symbols.specs.Piece.{piece_len, AreNotTwo}
 
 -- ---- elements from a place on

@@ -6,7 +6,8 @@ ghost use Rattle.omf_format.specs.Expression.{AreTerms, terms_text, Tree, Spells
 ghost use Rattle.omf_format.specs.Value.{value, truth, apply_two};
 ghost use Rattle.omf_format.specs.declared.value.Value.TheVariants as Value;
 ghost use Rattle.orca_meaning.specs.Formula.{operator_code};
-ghost use Rattle.macro_meaning.specs.Condition.{attribute, attribute_of, symbol_environment, is_declared, number_of, IsNumber, IsCondition, comparison_at, same_as, compared_with, comparison};
+ghost use Rattle.macro_meaning.specs.Condition.{attribute, symbol_environment, IsNumber, IsCondition, comparison_at, comparison};
+ghost use Rattle.macro_meaning.specs.laws.Steps.{is_declared, number_of, compared_with};
 ghost use Rattle.macro_meaning.specs.Symbol.{text_of};
 ghost use Rattle.omf_expr.specs.View.{view};
 ghost use Rattle.orca_symbols.specs.Short.{HasNumber};

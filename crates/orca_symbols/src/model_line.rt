@@ -1,7 +1,8 @@
 //! Model lines (ORCA/M reference manual, "Macro definitions").
 
 ghost use Rattle.std.specs.Prelude.{◌≡◌, [], List, ℕ, Some, None, IfOk, MatchOption, option_map};
-ghost use Rattle.macro_meaning.specs.Definition.{names_of, parameters_of, label_of, model_of, model_by};
+ghost use Rattle.macro_meaning.specs.Definition.{names_of, parameters_of, label_of, model_of};
+ghost use Rattle.macro_meaning.specs.laws.Steps.{model_by};
 ghost use Rattle.orca_symbols.specs.ModelView.{model};
 ghost use Rattle.orca_text.specs.View.{fields};
 ghost use Rattle.orca_meaning.specs.Line.{HaveFields};

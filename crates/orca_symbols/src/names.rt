@@ -8,7 +8,8 @@ ghost use Rattle.orca_meaning.specs.Operation.{value_of_spelling};
 ghost use Rattle.orca_meaning.specs.Token.{Found};
 ghost use Rattle.orca_symbols.specs.Letters.{with_a, with_s, with_l, with_m, with_g};
 ghost use Rattle.macro_meaning.specs.Definition.{operation_is};
-ghost use Rattle.macro_meaning.specs.Statements.{statement_of, is_operation, whole_match, after_dot, symbol_name, sequence_name, target_name};
+ghost use Rattle.macro_meaning.specs.Statements.{statement_of, whole_match, symbol_name, sequence_name, target_name};
+ghost use Rattle.macro_meaning.specs.laws.Steps.{is_operation, after_dot};
 ghost use Rattle.orca_text.specs.View.{line};
 
 use macro_meaning::{Declaration, Statement, SymbolKind};

@@ -1,7 +1,8 @@
 //! Texts separated by commas or plus signs, and texts in quotes.
 
 ghost use Rattle.std.specs.Prelude.{◌≡◌, ◌≤◌, ◌<◌, ◌+◌, ◌^◌, ◌∷◌, [], List, ℕ, map, length, take, drop, position, nat_eq, slice_get, Some, None, IfOk, IfSome, MatchOption, option_copied};
-ghost use Rattle.macro_meaning.specs.Pieces.{open_after, parts, pieces, closed_at, quoted_at, unquoted_text, joined_texts, appended_texts};
+ghost use Rattle.macro_meaning.specs.Pieces.{open_after, parts, pieces, closed_at, quoted_at, unquoted_text, joined_texts};
+ghost use Rattle.macro_meaning.specs.laws.Steps.{appended_texts};
 ghost use Rattle.orca_symbols.specs.Piece.{piece_len, more_pieces, AreNotTwo};
 
 use orca_text::{LinePart, quote_following};

@@ -5,8 +5,9 @@ ghost use Rattle.std.specs.Char.{to_ascii_uppercase};
 ghost use Rattle.orca_meaning.specs.Characters.{is_letter, is_name_start};
 ghost use Rattle.orca_meaning.specs.Line.{LiesIn, HaveFields, part};
 ghost use Rattle.macro_meaning.specs.Statements.{statement_of};
-ghost use Rattle.orca_meaning.specs.Quotes.{is_closed, quote_after};
-ghost use Rattle.macro_meaning.specs.Substitution.{lies_in, asks_before, is_asked, may_ask, sets_label, declares, naming_by, naming_at, name_length, taken_length, first_passes, in_place, substituted_from, with_front};
+ghost use Rattle.orca_meaning.specs.Quotes.{quote_after};
+ghost use Rattle.macro_meaning.specs.Substitution.{lies_in, is_asked, may_ask, sets_label, declares, naming_at, name_length, taken_length, first_passes, in_place, substituted_from, with_front};
+ghost use Rattle.macro_meaning.specs.laws.Steps.{asks_before, naming_by};
 ghost use Rattle.macro_meaning.specs.Symbol.{text_of};
 ghost use Rattle.orca_symbols.specs.Plain.{plain_len};
 ghost use Rattle.orca_symbols.specs.View.{naming, values};
@@ -50,7 +51,7 @@ fn asks_before(text: &[u8], at: u32) -> bool
 
 /// Whether no quote is open after a text.
 fn is_outside(front: &[u8]) -> bool
-    ensures { result ≡ is_closed (quote_after None front.now) }
+    ensures { result ≡ is_none (quote_after None front.now) }
 {
     let mut quote = None;
     'bytes: for byte in front {

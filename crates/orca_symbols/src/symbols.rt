@@ -236,8 +236,8 @@ impl SharedTextTable {
 /// The text of a shared symbol.
 fn common_text<'a>(texts: &'a SharedTextTable, name: &[u8]) -> Option<&'a [u8]>
     ensures short { IfSome result (λ t. length t.now ≤ 255) }
-    ensures text { MatchOption result (Rattle.macro_meaning.specs.Symbol.shared_text (texts_of texts.now name.now) ≡ None)
-        (λ t. Rattle.macro_meaning.specs.Symbol.shared_text (texts_of texts.now name.now) ≡ Some t.now) }
+    ensures text { MatchOption result (Rattle.macro_meaning.specs.laws.Steps.shared_text (texts_of texts.now name.now) ≡ None)
+        (λ t. Rattle.macro_meaning.specs.laws.Steps.shared_text (texts_of texts.now name.now) ≡ Some t.now) }
 {
     match texts.get(name) {
         Some(found) => Some(found.text.bytes()),

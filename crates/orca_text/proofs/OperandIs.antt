@@ -20,9 +20,10 @@ use Rattle.orca_meaning.specs.declared.mnemonics.Mnemonic.{Mnemonic}
 use Rattle.orca_meaning.specs.declared.operators.Operands.TheVariants.{Labels}
 use Rattle.orca_meaning.specs.declared.operators.Operands.{Operands}
 use Rattle.orca_meaning.specs.Token as token
-use Rattle.orca_meaning.specs.Formula.{Formula, Single, Group, Signed, Joined, tree_of, sign_code, operator_code, pending, is_large, has_large, MeansAt}
+use Rattle.orca_meaning.specs.Formula.{Formula, Single, Group, Signed, Joined, tree_of, sign_code, operator_code, pending, has_large, MeansAt}
 use Rattle.orca_meaning.specs.laws.FormulaLaws.{one_tree, sign_has_one, operator_has_two}
-use Rattle.orca_meaning.specs.Operand.{Meaning, is_accumulator, opening, prefix, body, form_after, plain_form, whole_index, IsOperand, IsMissing, IsInAccumulator, IsOne, IsTwo, values_here, AreShallow, IsBadOperand, IsRefusedFor}
+use Rattle.orca_meaning.specs.Operand.{Meaning, is_accumulator, opening, prefix, body, form_after, plain_form, whole_index, IsOperand, IsMissing, IsInAccumulator, IsOne, IsTwo, AreShallow, IsBadOperand, IsRefusedFor}
+use Rattle.orca_meaning.specs.laws.Steps.{is_large, values_here}
 use Rattle.orca_meaning.specs.laws.OperandLaws.{one_operand}
 use Rattle.orca_text.specs.declared.operand.Operand.{Operand}
 use Rattle.orca_text.specs.FormulaAt.{IsFormulaAt, HasNoFormula}

@@ -6,7 +6,8 @@ use Rattle.omf_format.specs.Lines.{lines_of}
 use Rattle.omf_format.specs.laws.LinesLaws.{lines_of-nil}
 use Rattle.orca_meaning.specs.declared.lines.TextCause.{TextCause}
 use Rattle.orca_meaning.specs.declared.lines.TextCause.TheVariants.{LineTooLong, TooManyLines, BadOperand, BadNumber, Memory}
-use Rattle.orca_meaning.specs.Line.{Line, line_of, line_fault, numbered_lines, first_line_fault, or_later}
+use Rattle.orca_meaning.specs.Line.{Line, line_of, line_fault, numbered_lines, first_line_fault}
+use Rattle.orca_meaning.specs.laws.Steps.{or_later}
 use Rattle.orca_text.specs.Refusals.{IsRefused, IsRefusedFor}
 
 -- these lines were read, and the line with this number is the next

@@ -6,7 +6,8 @@ use Rattle.orca_meaning.specs.declared.operators.Operands.TheVariants.{Symbols}
 use Rattle.orca_meaning.specs.declared.operators.Operator.{Operator}
 use Rattle.orca_meaning.specs.declared.operators.Sign.{Sign}
 use Rattle.orca_meaning.specs.Formula.{operator_level}
-use Rattle.orca_meaning.specs.Token.{Found, Operand, Number, LengthOf, CountOf, Token, Value, Before, Between, Opens, Stand, byte_at, sign_at, symbol_at, asked_by, attribute_at, number_at, other_operand_at, operand_at, operand_token_at, operator_token_at, seen_as}
+use Rattle.orca_meaning.specs.Token.{Found, Operand, Number, LengthOf, CountOf, Token, Value, Before, Between, Opens, Stand, byte_at, sign_at, symbol_at, attribute_at, number_at, operand_at, operand_token_at, operator_token_at, seen_as, asked_by}
+use Rattle.orca_meaning.specs.laws.Steps.{other_operand_at}
 use Rattle.orca_text.specs.Kept.{fitting}
 use Rattle.orca_text.specs.declared.short.ShortFormula.{ShortFormula}
 use Rattle.orca_text.specs.declared.short.ShortFormula.TheVariants.{One, Two, Three}

@@ -11,7 +11,8 @@ use Rattle.omf_format.specs.Expression.{Term, terms_of}
 use Rattle.orca_meaning.specs.declared.operators.Operands.{Operands}
 use Rattle.orca_meaning.specs.declared.operators.Operator as operators
 use Rattle.orca_meaning.specs.Token.{Found, seen_as, byte_at, operator_at, spelled_at, Operand, Here, Number, Label, LengthOf, CountOf, Token, Value, Before, Between, Opens, Closes, token_at, operand_token_at, operator_token_at, Stand}
-use Rattle.orca_meaning.specs.Formula.{Formula, tokens_of, tree_of, term_of, sign_code, operator_code, operator_level, is_large}
+use Rattle.orca_meaning.specs.Formula.{Formula, tokens_of, tree_of, term_of, sign_code, operator_code, operator_level}
+use Rattle.orca_meaning.specs.laws.Steps.{is_large}
 use Rattle.orca_meaning.specs.laws.Machine.{Wait, Bracket, Pending, State, state, reduced, closed, step, run, ended, finish, start, postfix}
 use Rattle.orca_meaning.specs.laws.Complete.{complete}
 use Rattle.orca_meaning.specs.laws.Sound.{sound}

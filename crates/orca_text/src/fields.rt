@@ -4,7 +4,8 @@ ghost use Rattle.std.specs.Prelude.{◌≡◌, ◌≤◌, ◌+◌, ◌-◌, ◌<
 ghost use Rattle.std.specs.List.{position_or_len, list_all};
 ghost use Rattle.orca_meaning.specs.Characters.{is_blank};
 ghost use Rattle.orca_meaning.specs.Quotes.{outside_from, quote_following};
-ghost use Rattle.orca_meaning.specs.Line.{is_ink, is_comment, three_fields, operand_span, statement_fields, fields_of, part, LiesIn, HaveFields};
+ghost use Rattle.orca_meaning.specs.Line.{is_comment, three_fields, operand_span, fields_of, part, LiesIn, HaveFields};
+ghost use Rattle.orca_meaning.specs.laws.Steps.{is_ink, statement_fields};
 ghost use Rattle.orca_text.specs.View.{fields};
 
 use crate::line_part::LinePart;

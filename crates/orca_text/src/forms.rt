@@ -1,7 +1,8 @@
 //! What precedes and what follows the formula of an operand, and the form that it makes.
 
 ghost use Rattle.std.specs.Prelude.{◌≡◌, ◌≢◌, ◌∷◌, ◌<◌, ◌≤◌, [], ℕ, drop, length, Some, None, MatchOption};
-ghost use Rattle.orca_meaning.specs.Operand.{opening_of, after_opening, prefix_of, prefix_by, after_prefix, address_prefix, immediate_prefix, register_of, index_at, whole_index, indexes_around, plain_form, round_form, square_form, immediate_form, form_after};
+ghost use Rattle.orca_meaning.specs.Operand.{after_opening, prefix_of, register_of, index_at, whole_index, indexes_around, plain_form, round_form, square_form, form_after};
+ghost use Rattle.orca_meaning.specs.laws.Steps.{opening_of, after_prefix, address_prefix, immediate_prefix, immediate_form};
 
 use crate::fields::from;
 use orca_meaning::{Form, Index, Opening, Prefix};

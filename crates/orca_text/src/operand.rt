@@ -4,7 +4,8 @@ ghost use Rattle.std.specs.Prelude.{◌≡◌, ◌≢◌, ◌∷◌, ◌+◌, �
 ghost use Rattle.omf_format.specs.Expression.{operand_count};
 ghost use Rattle.orca_meaning.specs.Characters.{folded};
 ghost use Rattle.orca_meaning.specs.Line.{LiesIn};
-ghost use Rattle.orca_meaning.specs.Operand.{means_accumulator, is_accumulator, opening, prefix, body, IsRefusedFor, values_here};
+ghost use Rattle.orca_meaning.specs.Operand.{is_accumulator, opening, prefix, body, IsRefusedFor};
+ghost use Rattle.orca_meaning.specs.laws.Steps.{means_accumulator, values_here};
 ghost use Rattle.orca_meaning.specs.Operation.{mnemonic_of};
 ghost use Rattle.orca_text.specs.OperandView.{IsRead, IsOperandFault, line_mnemonic, line_operand, line_for, IsRefusedHere, IsSecond, HasNoSecond};
 ghost use Rattle.orca_text.specs.Peak.{peak};

@@ -4,7 +4,8 @@ ghost use Rattle.std.specs.Prelude.{◌≡◌, ◌≢◌, ℕ, List, ◌+◌, �
 ghost use Rattle.std.specs.Char.{to_ascii_uppercase};
 ghost use Rattle.std.specs.List.{prefix_len};
 ghost use Rattle.orca_meaning.specs.Characters.{is_name_start, is_name_byte, folded};
-ghost use Rattle.orca_meaning.specs.Token.{Here, location_at, seen_as, number_at, name_at, symbol_at, attribute_at, operand_at, other_operand_at, byte_at, operand_token_at, operator_token_at, Opens, Closes};
+ghost use Rattle.orca_meaning.specs.Token.{Here, location_at, seen_as, number_at, name_at, symbol_at, attribute_at, operand_at, byte_at, operand_token_at, operator_token_at, Opens, Closes};
+ghost use Rattle.orca_meaning.specs.laws.Steps.{other_operand_at};
 ghost use Rattle.orca_text.specs.Kept.{fitting, kept_operand, kept_token};
 ghost use Rattle.orca_text.specs.TokenView.{operand, operand_token, operator_token, number_operand, letter_of, asked, asked_name};
 

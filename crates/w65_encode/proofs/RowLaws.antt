@@ -8,7 +8,8 @@ use Rattle.orca_meaning.specs.contracts.mnemonics.Mnemonic as mnemonic_type
 use Rattle.orca_meaning.specs.contracts.modes.Mode as mode_type
 use Rattle.orca_meaning.specs.declared.mnemonics.Mnemonic.{Mnemonic}
 use Rattle.orca_meaning.specs.declared.modes.Mode.{Mode}
-use Rattle.orca_meaning.specs.Matrix.{Instruction, is_instruction, matrix, opcode_of}
+use Rattle.orca_meaning.specs.Matrix.{Instruction, matrix, opcode_of}
+use Rattle.orca_meaning.specs.laws.Steps.{is_instruction}
 use Rattle.orca_meaning.proofs.MatrixLemmas.{instruction_at, opcode_at, length-matrix}
 use Rattle.w65_encode.specs.Row.{are_in, in_row, is_answer}
 

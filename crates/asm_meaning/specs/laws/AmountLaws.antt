@@ -10,7 +10,8 @@ use Rattle.std.specs.Int.{w32, bit_not}
 use Rattle.omf_format.specs.Expression.{Operator, Location, Constant, Named, Offset, Tree, Leaf, Unary, Binary, IsTree, IsExpression, depth}
 use Rattle.omf_format.specs.Value.{number_of_one, number_of_two, wrapped_to_32_bits, shifted_bits, truth, signed, divides}
 use Rattle.omf_format.specs.laws.Steps.{bits_of, arithmetic, logical, comparison, bitwise}
-use Rattle.orca_meaning.specs.Formula.{pending, values_of, with_location_less}
+use Rattle.orca_meaning.specs.Formula.{pending, with_location_less}
+use Rattle.orca_meaning.specs.laws.Steps.{values_of}
 use Rattle.asm_meaning.specs.Answer.{Answer}
 use Rattle.asm_meaning.specs.Constant.{Constants, AreSmall, KnownValue, Number, Open, Divided, number_or_open, worth_of_one, worth_of_two, known_value, number_or, with_values, Amount, Known, Written, amount_by, amount}
 use Rattle.asm_meaning.specs.Formulas.{expression_text}

@@ -19,7 +19,8 @@ use Rattle.orca_meaning.specs.declared.operators.Operands.TheVariants.{Labels}
 use Rattle.orca_meaning.specs.Characters.{is_name_start, is_name_byte, folded}
 use Rattle.orca_meaning.specs.Formula.{MeansAt, pending, has_large}
 use Rattle.orca_meaning.specs.laws.FormulaLaws.{formed, pending-one}
-use Rattle.orca_meaning.specs.Operand.{Meaning, opening, body, prefix, after_opening, after_prefix, form_after, IsOperand, IsMissing, IsInAccumulator, IsOne, IsTwo, IsGoodOperand, AreShallow}
+use Rattle.orca_meaning.specs.Operand.{Meaning, opening, body, prefix, after_opening, form_after, IsOperand, IsMissing, IsInAccumulator, IsOne, IsTwo, IsGoodOperand, AreShallow}
+use Rattle.orca_meaning.specs.laws.Steps.{after_prefix}
 use Rattle.orca_meaning.specs.Token.{digits_at, Token, Stand, expects_following, name_at, Found}
 use Rattle.orca_meaning.specs.laws.TokenLaws.{token-shorter}
 use Rattle.asm_meaning.specs.declared.faults.AsmCause.TheVariants.{BadOperand, BadNumber}

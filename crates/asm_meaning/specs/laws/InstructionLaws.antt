@@ -19,7 +19,8 @@ use Rattle.orca_meaning.specs.declared.modes.Mode.{Mode}
 use Rattle.orca_meaning.specs.Formula.{pending, with_location_less}
 use Rattle.orca_meaning.specs.laws.FormulaLaws.{pending-two}
 use Rattle.orca_meaning.specs.Length.{length_of, has_long_operand}
-use Rattle.orca_meaning.specs.Operand.{form_after, plain_form, round_form, square_form, immediate_form, whole_index, indexes_around}
+use Rattle.orca_meaning.specs.Operand.{form_after, plain_form, round_form, square_form, whole_index, indexes_around}
+use Rattle.orca_meaning.specs.laws.Steps.{immediate_form}
 use Rattle.std.proofs.lemmas.Bool.{leb-true, eqb-false, and_parts}
 use Rattle.asm_meaning.specs.declared.faults.AsmCause.TheVariants.{DoesNotFit}
 use Rattle.asm_meaning.specs.Answer.{Answer, pair_or_earlier_fault}

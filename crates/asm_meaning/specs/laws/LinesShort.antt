@@ -16,13 +16,14 @@ use Rattle.macro_meaning.specs.declared.statements.Statement.{Statement}
 use Rattle.macro_meaning.specs.declared.statements.Statement.TheVariants.{Declare, Set, Middle, BranchIf, Branch, Count, Nothing, Leave, Note, Define}
 use Rattle.macro_meaning.specs.Call.{bound_arguments, names_count}
 use Rattle.macro_meaning.specs.Condition.{Answer}
-use Rattle.macro_meaning.specs.Effect.{Effect, NoEffect, Emit, DeclareSymbol, SetSymbol, BranchTo, SetCounter, Exit, CallMacro, Fail, redeclaration_effect, first_time, or_effect, declaring, settable, set_to, setting, pair_or_earlier_fault, or_bad, going, going_to, counting, noting, IsBranchIf, IsMiddle, IsNote, IsSetting, resting, IsDone, call_effect, calling, calling_if, calling_at, SymbolSetting, IsDoneBy, operation_or_anop, without_sequence_symbol, IsAfterCut, IsAfterText, begins_definition, IsShort, IsWithTexts, substituted_line, IsWritten, IsEffect}
-use Rattle.macro_meaning.specs.Definition.{MacroDefinition, is_visible_in}
+use Rattle.macro_meaning.specs.Effect.{Effect, NoEffect, Emit, DeclareSymbol, SetSymbol, BranchTo, SetCounter, Exit, CallMacro, Fail, first_time, declaring, settable, setting, pair_or_earlier_fault, or_bad, IsMiddle, IsSetting, IsDone, calling_at, SymbolSetting, operation_or_anop, without_sequence_symbol, IsAfterText, IsEffect}
+use Rattle.macro_meaning.specs.Definition.{MacroDefinition}
 use Rattle.macro_meaning.specs.Expansion.{IsExpanded, program_of}
 use Rattle.macro_meaning.specs.Pieces.{pieces, unquoted_text}
 use Rattle.macro_meaning.specs.Statements.{sequence_name, symbol_name, target_name}
 use Rattle.macro_meaning.specs.Symbol.{Symbol, Symbols, Values, is_count, is_kind, is_declaration, declaration_of}
-use Rattle.macro_meaning.specs.Visit.{MacroProgram, Visit, Move, On, given_by, IsVisitOf, IsVisitAt, IsVisit, Follow, line_at, setting_of, most_visits, first_visit}
+use Rattle.macro_meaning.specs.Visit.{MacroProgram, Visit, Move, On, IsVisit, Follow, line_at, setting_of, most_visits, first_visit}
+use Rattle.macro_meaning.specs.laws.Steps.{declared_again, set_to, going, going_to, counting, noting, IsBranchIf, IsNote, resting, call_effect, calling, calling_if, IsDoneBy, IsAfterCut, begins_definition, IsShort, IsWithTexts, substituted_line, IsWritten, is_visible_in, given_by, IsVisitOf, IsVisitAt}
 use Rattle.asm_meaning.specs.laws.PieceLaws.{all-append}
 
 -- an effect gives a line of at most 255 bytes, or none
@@ -41,7 +42,7 @@ if_effect : (b : Bool) (x y : Effect) → IsShortEffect x → IsShortEffect y �
 if_effect true x y p q = p
 if_effect false x y p q = q
 
-short_again : (name : List ℕ) (d : Declaration) (o : Option Symbol) (other : Effect) → IsShortEffect other → IsShortEffect (or_effect (redeclaration_effect name d o) other)
+short_again : (name : List ℕ) (d : Declaration) (o : Option Symbol) (other : Effect) → IsShortEffect other → IsShortEffect (declared_again d o other)
 short_again name d None other is = is
 short_again name d (Some symbol) other is = if_effect (is_declaration d (declaration_of symbol)) NoEffect (Fail BadSetting) tt tt
 

@@ -13,7 +13,7 @@ use Rattle.orca_meaning.specs.Characters.{is_blank, is_name_byte, is_name_start}
 use Rattle.orca_meaning.specs.Formula.{pending, has_large, with_location_less}
 use Rattle.orca_meaning.specs.Line.{line_of}
 use Rattle.orca_meaning.specs.Matrix.{matrix}
-use Rattle.orca_meaning.specs.Operand.{means_accumulator}
+use Rattle.orca_meaning.specs.laws.Steps.{means_accumulator}
 use Rattle.orca_meaning.specs.Operation.{use_of, operation_use}
 use Rattle.asm_meaning.specs.declared.directives.Operation.TheVariants.{Instruct}
 use Rattle.asm_meaning.specs.Constant as constant

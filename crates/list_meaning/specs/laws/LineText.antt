@@ -1,5 +1,5 @@
 -- A line that is written with single spaces is read again as its three fields.
-use Rattle.std.proofs.Common.{◌≡◌, ℕ, zero, suc, ◌+◌, ◌-◌, Bool, true, false, cond, List, [], ◌∷◌, ◌++◌, length, take, drop, Option, None, refl, sym, ap, subst, ◌∙◌, arith, append_assoc, append-nil}
+use Rattle.std.proofs.Common.{◌≡◌, ℕ, zero, suc, ◌+◌, ◌-◌, Bool, true, false, cond, List, [], ◌∷◌, ◌++◌, length, take, drop, Option, None, refl, sym, ap, subst, ◌∙◌, arith, append_assoc, append-nil, is_none}
 use Rattle.std.specs.Prelude.{◌&&◌, slice_index, ◌==◌}
 use Rattle.std.specs.List.{AllByRecursion, position_or_len}
 use Rattle.std.proofs.lemmas.List.{length-append, drop_at, take_at, append-nil}
@@ -7,9 +7,10 @@ use Rattle.orca_meaning.specs.declared.forms.OperandUse.{OperandUse}
 use Rattle.orca_meaning.specs.declared.forms.OperandUse.TheVariants.{Never, Accumulator, Signature, Always}
 use Rattle.orca_meaning.specs.Characters.{is_blank}
 use Rattle.orca_meaning.specs.Operation.{operation_use}
-use Rattle.orca_meaning.specs.Quotes.{outside_from, is_closed, quote_following}
+use Rattle.orca_meaning.specs.Quotes.{outside_from, quote_following}
 use Rattle.list_meaning.specs.Listed.{with_leading_space, statement_text}
-use Rattle.orca_meaning.specs.Line.{LineFields, is_ink, is_comment, next_blank, next_ink, next_outside, three_fields, operand_span, fields_of, part, span}
+use Rattle.orca_meaning.specs.Line.{LineFields, is_comment, next_blank, next_ink, three_fields, operand_span, fields_of, part, span}
+use Rattle.orca_meaning.specs.laws.Steps.{is_ink, next_outside}
 
 -- no blank is among the bytes
 abbrev pub HasNoBlank : List ℕ → Type 0
@@ -39,7 +40,7 @@ no_blank (byte ∷ front) none = rw none.0 (omega (arith, no_blank front none.1)
 all_outside : (quote : Option ℕ) (text : List ℕ) → HasNoBlank text → outside_from is_blank quote text ≡ length text
 unfolding outside_from
 all_outside quote [] none = refl
-all_outside quote (byte ∷ text) none = by (is_closed quote) (all_outside (quote_following quote byte) text none.1)
+all_outside quote (byte ∷ text) none = by (is_none quote) (all_outside (quote_following quote byte) text none.1)
   where
     by : (b : Bool) → outside_from is_blank (quote_following quote byte) text ≡ length text
         → cond (b && is_blank byte) 0 (outside_from is_blank (quote_following quote byte) text + 1) ≡ length (byte ∷ text)

@@ -16,7 +16,7 @@ use Rattle.std.proofs.lemmas.Bool.{eqb-true, and_parts}
 use Rattle.orca_meaning.specs.declared.modes.Mode.TheVariants as modes
 use Rattle.orca_meaning.specs.declared.forms.OperandUse.{OperandUse}
 use Rattle.orca_meaning.specs.declared.forms.OperandUse.TheVariants.{Never, Accumulator, Signature, Always}
-use Rattle.orca_meaning.specs.Operand.{means_accumulator}
+use Rattle.orca_meaning.specs.laws.Steps.{means_accumulator}
 use Rattle.orca_meaning.specs.Operation.{use_of, has_mode}
 use Rattle.asm_meaning.specs.Instruction.{opcode_in}
 use Rattle.orca_meaning.specs.Matrix.{Instruction, matrix, opcode_of}

@@ -22,7 +22,8 @@ use Rattle.orca_meaning.specs.declared.operators.Operands.TheVariants.{Labels}
 use Rattle.orca_meaning.specs.Formula.{MeansAt}
 use Rattle.orca_meaning.specs.Token as tokens
 use Rattle.orca_meaning.specs.Operand as operands
-use Rattle.orca_meaning.specs.Operand.{Meaning, IsInAccumulator, IsTwo, is_accumulator, means_accumulator}
+use Rattle.orca_meaning.specs.Operand.{Meaning, IsInAccumulator, IsTwo, is_accumulator}
+use Rattle.orca_meaning.specs.laws.Steps.{means_accumulator}
 use Rattle.orca_meaning.specs.Operation.{use_of, operation_use}
 use Rattle.asm_meaning.specs.declared.directives.Operation.TheVariants.{Instruct}
 use Rattle.asm_meaning.specs.Constant as constant

@@ -15,7 +15,8 @@ use Rattle.orca_meaning.specs.declared.operators.Operands.TheVariants.{Labels}
 use Rattle.orca_meaning.specs.Characters.{is_name_start, folded}
 use Rattle.orca_meaning.specs.Formula.{MeansAt}
 use Rattle.orca_meaning.specs.Operand as operands
-use Rattle.orca_meaning.specs.Operand.{Meaning, IsOperand, IsOne, is_accumulator, means_accumulator, opening, prefix, body, opening_of, prefix_of, form_after}
+use Rattle.orca_meaning.specs.Operand.{Meaning, IsOperand, IsOne, is_accumulator, opening, prefix, body, prefix_of, form_after}
+use Rattle.orca_meaning.specs.laws.Steps.{means_accumulator, opening_of, after_prefix}
 use Rattle.orca_meaning.specs.Operation.{use_of}
 use Rattle.orca_meaning.specs.Token as tokens
 use Rattle.orca_meaning.specs.Token.{operator_at}
@@ -154,7 +155,7 @@ plain_prefix m w rest has = ap (λ (o : Opening). prefix_of o (operands.after_op
 
 plain_body : (m : Mnemonic) (w : Wanted) (rest : List ℕ) → HasName w → body (Some m) (wanted_text w ++ rest) ≡ wanted_text w ++ rest
 plain_body m w rest has =
-    ap (λ (p : Prefix). operands.after_prefix p (operands.after_opening (opening (Some m) (wanted_text w ++ rest)) (wanted_text w ++ rest))) (plain_prefix m w rest has)
+    ap (λ (p : Prefix). after_prefix p (operands.after_opening (opening (Some m) (wanted_text w ++ rest)) (wanted_text w ++ rest))) (plain_prefix m w rest has)
     ∙ ap (λ (o : Opening). operands.after_opening o (wanted_text w ++ rest)) (plain_open m w rest has)
 
 -- without a byte before the name
@@ -169,8 +170,8 @@ plain_read m w way rest has text bare form other ends none =
 bare_prefix : (o : Opening) (w : Wanted) (rest : List ℕ) → HasName w → prefix_of o (wanted_text w ++ rest) ≡ Bare
 bare_prefix o w rest has = no_prefix o (wanted_text w ++ rest) (begins w rest has)
 
-bare_body : (o : Opening) (w : Wanted) (rest : List ℕ) → HasName w → operands.after_prefix (prefix_of o (wanted_text w ++ rest)) (wanted_text w ++ rest) ≡ wanted_text w ++ rest
-bare_body o w rest has = ap (λ (p : Prefix). operands.after_prefix p (wanted_text w ++ rest)) (bare_prefix o w rest has)
+bare_body : (o : Opening) (w : Wanted) (rest : List ℕ) → HasName w → after_prefix (prefix_of o (wanted_text w ++ rest)) (wanted_text w ++ rest) ≡ wanted_text w ++ rest
+bare_body o w rest has = ap (λ (p : Prefix). after_prefix p (wanted_text w ++ rest)) (bare_prefix o w rest has)
 
 pub operand_read : (m : Mnemonic) (way : Mode) (w : Wanted) → TakesName way → HasName w → IsOther way m → IsOperand (Some m) (operand_text way w) (meaning_in way w)
 unfolding listed.shape_of operands.whole_index operands.index_at operands.indexes_around tokens.operator_at tokens.spelled_at

@@ -21,7 +21,7 @@ use Rattle.orca_meaning.specs.Operation as operations
 use Rattle.macro_meaning.specs.declared.statements.Statement.TheVariants.{Nothing}
 use Rattle.macro_meaning.specs.Effect.{operation_or_anop}
 use Rattle.macro_meaning.specs.Statements as statements
-use Rattle.macro_meaning.specs.Statements.{is_operation}
+use Rattle.macro_meaning.specs.laws.Steps.{is_operation}
 use Rattle.asm_meaning.specs.declared.directives.Switch.TheVariants.{LongA, LongI, Msb}
 use Rattle.asm_meaning.specs.Instruction.{Widths}
 use Rattle.asm_meaning.specs.State.{no_constants}

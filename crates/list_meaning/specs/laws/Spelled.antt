@@ -5,7 +5,7 @@ use Rattle.std.specs.List.{AllByRecursion}
 use Rattle.orca_meaning.specs.Characters.{is_name_byte}
 use Rattle.macro_meaning.specs.Effect.{operation_or_anop}
 use Rattle.macro_meaning.specs.Statements as statements
-use Rattle.macro_meaning.specs.Statements.{is_operation}
+use Rattle.macro_meaning.specs.laws.Steps.{is_operation}
 use Rattle.orca_meaning.specs.declared.mnemonics.Mnemonic.{Mnemonic}
 use Rattle.orca_meaning.specs.declared.mnemonics.Mnemonic.TheVariants.{Adc, And, Asl, Bcc, Bcs, Beq, Bit, Bmi, Bne, Bpl, Bra, Brk, Brl, Bvc, Bvs, Clc, Cld, Cli, Clv, Cmp, Cop, Cpx, Cpy, Dec, Dex, Dey, Eor, Inc, Inx, Iny, Jml, Jmp, Jsl, Jsr, Lda, Ldx, Ldy, Lsr, Mvn, Mvp, Nop, Ora, Pea, Pei, Per, Pha, Phb, Phd, Phk, Php, Phx, Phy, Pla, Plb, Pld, Plp, Plx, Ply, Rep, Rol, Ror, Rti, Rtl, Rts, Sbc, Sec, Sed, Sei, Sep, Sta, Stp, Stx, Sty, Stz, Tax, Tay, Tcd, Tcs, Tdc, Trb, Tsb, Tsc, Tsx, Txa, Txs, Txy, Tya, Tyx, Wai, Wdm, Xba, Xce}
 use Rattle.orca_meaning.specs.Operation as operations

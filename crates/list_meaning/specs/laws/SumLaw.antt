@@ -9,7 +9,8 @@ use Rattle.omf_format.specs.Expression as expression
 use Rattle.omf_format.specs.Expression.{Tree, Leaf, Unary, Binary, terms_of}
 use Rattle.omf_format.specs.Field.{◌>>=◌}
 use Rattle.omf_format.specs.Record.{Formula}
-use Rattle.orca_meaning.specs.Formula.{pending, has_large, is_large}
+use Rattle.orca_meaning.specs.Formula.{pending, has_large}
+use Rattle.orca_meaning.specs.laws.Steps.{is_large}
 use Rattle.orca_meaning.specs.Token as tokens
 use Rattle.asm_meaning.specs.Constant.{Constants, KnownValue, Number, Open, Divided, known_value, worth_of_two, with_values, amount}
 use Rattle.asm_meaning.specs.Elements as elements

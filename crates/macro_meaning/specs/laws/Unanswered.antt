@@ -13,12 +13,13 @@ use Rattle.macro_meaning.specs.declared.statements.SymbolKind.{SymbolKind}
 use Rattle.macro_meaning.specs.declared.statements.SymbolKind.TheVariants.{Number, Flag, Text}
 use Rattle.macro_meaning.specs.declared.statements.Statement.{Statement}
 use Rattle.macro_meaning.specs.declared.statements.Statement.TheVariants.{Declare, Set, Middle, BranchIf, Branch, Count, Nothing, Leave, Note, Define}
-use Rattle.macro_meaning.specs.Condition.{Answer, IsNumber, Formula, NoFormula, answer_of, comparison, IsConditionBy, IsCondition}
-use Rattle.macro_meaning.specs.Effect.{Effect, NoEffect, Emit, Fail, Exit, pair_or_earlier_fault, or_bad, declaring, setting, printed_answer, middle_of, going, going_to, counting, noting, resting, IsBranchIf, IsMiddle, IsNote, IsSetting, IsDone, SymbolSetting, IsDoneBy, operation_or_anop, without_sequence_symbol, IsAfterCut, IsAfterText, begins_definition, IsShort, IsWithTexts, substituted_line, IsWritten, IsEffect}
+use Rattle.macro_meaning.specs.Condition.{Answer, IsNumber, Formula, NoFormula, answer_of, comparison, IsCondition}
+use Rattle.macro_meaning.specs.Effect.{Effect, NoEffect, Emit, Fail, Exit, pair_or_earlier_fault, or_bad, declaring, setting, IsMiddle, IsSetting, IsDone, SymbolSetting, operation_or_anop, without_sequence_symbol, IsAfterText, IsEffect}
 use Rattle.macro_meaning.specs.Pieces.{pieces, unquoted_text, joined_texts}
 use Rattle.macro_meaning.specs.Statements.{symbol_name, target_name}
 use Rattle.macro_meaning.specs.Symbol.{Values}
-use Rattle.macro_meaning.specs.Visit.{MacroProgram, Visit, Move, On, Ends, Stops, line_at, setting_of, move_of, given_by, most_visits, IsVisitOf, IsVisitAt, IsVisit, Follow, first_visit}
+use Rattle.macro_meaning.specs.Visit.{MacroProgram, Visit, Move, On, Ends, Stops, line_at, setting_of, move_of, most_visits, IsVisit, Follow, first_visit}
+use Rattle.macro_meaning.specs.laws.Steps.{IsConditionBy, printed_answer, middle_of, going, going_to, counting, noting, resting, IsBranchIf, IsNote, IsDoneBy, IsAfterCut, begins_definition, IsShort, IsWithTexts, substituted_line, IsWritten, given_by, IsVisitOf, IsVisitAt}
 use Rattle.macro_meaning.specs.Expansion.{AreGoodFiles, InText, InDefinition, InVisit, first_of_files, file_text_fault, file_part_fault, program_of, fault_at}
 use Rattle.macro_meaning.specs.ExpansionLaws.{NoneUnanswered}
 

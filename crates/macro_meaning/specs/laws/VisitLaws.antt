@@ -7,12 +7,13 @@ use Rattle.macro_meaning.specs.declared.statements.SymbolKind.{SymbolKind}
 use Rattle.macro_meaning.specs.declared.statements.SymbolKind.TheVariants.{Number, Flag, Text}
 use Rattle.macro_meaning.specs.declared.statements.Statement.{Statement}
 use Rattle.macro_meaning.specs.declared.statements.Statement.TheVariants.{Declare, Set, Middle, BranchIf, Branch, Count, Nothing, Leave, Note, Define}
-use Rattle.macro_meaning.specs.Condition.{Answer, answer_of, IsNumber, Formula, NoFormula, IsCondition, IsConditionBy, comparison}
-use Rattle.macro_meaning.specs.Effect.{Effect, SymbolSetting, pair_or_earlier_fault, or_bad, going, setting, middle_of, noting, printed_answer, counting, IsBranchIf, IsMiddle, IsNote, IsSetting, IsDone, IsDoneBy, operation_or_anop, IsAfterCut, without_sequence_symbol, IsAfterText, begins_definition, IsShort, IsWithTexts, substituted_line, IsWritten, IsEffect}
+use Rattle.macro_meaning.specs.Condition.{Answer, answer_of, IsNumber, Formula, NoFormula, IsCondition, comparison}
+use Rattle.macro_meaning.specs.Effect.{Effect, SymbolSetting, pair_or_earlier_fault, or_bad, setting, IsMiddle, IsSetting, IsDone, operation_or_anop, without_sequence_symbol, IsAfterText, IsEffect}
 use Rattle.macro_meaning.specs.Pieces.{unquoted_text, pieces}
 use Rattle.macro_meaning.specs.Statements.{target_name}
 use Rattle.macro_meaning.specs.Symbol.{Values}
-use Rattle.macro_meaning.specs.Visit.{MacroProgram, Visit, Move, On, Ends, Stops, IsVisitOf, IsVisitAt, IsVisit, Follow, line_at, setting_of, given_by, move_of, most_visits}
+use Rattle.macro_meaning.specs.Visit.{MacroProgram, Visit, Move, On, Ends, Stops, IsVisit, Follow, line_at, setting_of, move_of, most_visits}
+use Rattle.macro_meaning.specs.laws.Steps.{IsConditionBy, going, middle_of, noting, printed_answer, counting, IsBranchIf, IsNote, IsDoneBy, IsAfterCut, begins_definition, IsShort, IsWithTexts, substituted_line, IsWritten, IsVisitOf, IsVisitAt, given_by}
 
 -- ---- answers
 

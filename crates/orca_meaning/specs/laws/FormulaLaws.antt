@@ -12,7 +12,8 @@ use Rattle.orca_meaning.specs.declared.operators.Operator.TheVariants.{Multiply,
 use Rattle.orca_meaning.specs.declared.operators.Sign as signs
 use Rattle.orca_meaning.specs.declared.operators.Sign.TheVariants.{Negate, Not}
 use Rattle.orca_meaning.specs.Token.{Operand, Here, Number, Label, LengthOf, CountOf, Token, Value, Before, Between, Opens, Closes}
-use Rattle.orca_meaning.specs.Formula.{Formula, Single, Group, Signed, Joined, sign_code, operator_code, term_of, tree_of, tokens_of, StandsAt, MeansAt, pending, with_location_less, is_large, has_large}
+use Rattle.orca_meaning.specs.Formula.{Formula, Single, Group, Signed, Joined, sign_code, operator_code, term_of, tree_of, tokens_of, StandsAt, MeansAt, pending, with_location_less, has_large}
+use Rattle.orca_meaning.specs.laws.Steps.{is_large}
 use Rattle.orca_meaning.specs.laws.Complete.{complete, one_form}
 use Rattle.orca_meaning.specs.laws.Front.{Compared, Longer, Shorter, compared, taken, formula_ends}
 use Rattle.orca_meaning.specs.laws.TokenLaws.{HasFineName, HaveFineNames, fine_names}

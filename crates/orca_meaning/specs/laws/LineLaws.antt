@@ -1,5 +1,5 @@
 -- The laws of source lines.
-use Rattle.std.proofs.Common.{◌≡◌, ℕ, zero, suc, ◌+◌, ◌-◌, ◌<◌, ◌≤◌, Bool, true, false, cond, List, [], ◌∷◌, ◌++◌, length, take, drop, Option, None, refl, sym, ap, ◌∙◌, arith}
+use Rattle.std.proofs.Common.{◌≡◌, ℕ, zero, suc, ◌+◌, ◌-◌, ◌<◌, ◌≤◌, Bool, true, false, cond, List, [], ◌∷◌, ◌++◌, length, take, drop, Option, None, refl, sym, ap, ◌∙◌, arith, is_none}
 use Rattle.std.specs.Prelude.{◌&&◌, slice_index, ◌==◌, not}
 use Rattle.std.specs.List.{AllByRecursion, prefix_len, position_or_len}
 use Rattle.std.proofs.lemmas.List.{length-drop, take-append-drop, drop-drop}
@@ -8,15 +8,16 @@ use Rattle.orca_meaning.specs.declared.forms.OperandUse.{OperandUse}
 use Rattle.orca_meaning.specs.declared.forms.OperandUse.TheVariants.{Never, Accumulator, Signature, Always}
 use Rattle.orca_meaning.specs.declared.lines.Span.{Span}
 use Rattle.orca_meaning.specs.Characters.{is_blank}
-use Rattle.orca_meaning.specs.Quotes.{outside_from, is_closed, quote_following, quote_after}
-use Rattle.orca_meaning.specs.Line.{is_ink, is_comment, next_blank, next_ink, next_outside, three_fields, operand_span, statement_fields, no_fields, fields_of, part, LiesIn, HaveFields, AreParted}
+use Rattle.orca_meaning.specs.Quotes.{outside_from, quote_following, quote_after}
+use Rattle.orca_meaning.specs.Line.{is_comment, next_blank, next_ink, three_fields, operand_span, fields_of, part, LiesIn, HaveFields, AreParted}
+use Rattle.orca_meaning.specs.laws.Steps.{is_ink, next_outside, statement_fields, no_fields}
 
 -- ---- the fields lie in the line
 
 pub outside_from-le : (test : ℕ → Bool) (quote : Option ℕ) (text : List ℕ) → outside_from test quote text ≤ length text
 unfolding outside_from
 outside_from-le test quote [] = omega arith
-outside_from-le test quote (byte ∷ following) = by_test (is_closed quote && test byte) (outside_from-le test (quote_following quote byte) following)
+outside_from-le test quote (byte ∷ following) = by_test (is_none quote && test byte) (outside_from-le test (quote_following quote byte) following)
   where
     by_test : (b : Bool) → outside_from test (quote_following quote byte) following ≤ length following
         → cond b 0 (outside_from test (quote_following quote byte) following + 1) ≤ length (byte ∷ following)
@@ -129,17 +130,17 @@ are_parted text =
 -- ---- a byte outside quotes
 
 pub outside_is_first : (test : ℕ → Bool) (quote : Option ℕ) (text : List ℕ) (k : ℕ) → k < length text
-    → (k < outside_from test quote text → (is_closed (quote_after quote (take k text)) && test (slice_index text k)) ≡ false)
-    × (k ≡ outside_from test quote text → (is_closed (quote_after quote (take k text)) && test (slice_index text k)) ≡ true)
+    → (k < outside_from test quote text → (is_none (quote_after quote (take k text)) && test (slice_index text k)) ≡ false)
+    × (k ≡ outside_from test quote text → (is_none (quote_after quote (take k text)) && test (slice_index text k)) ≡ true)
 unfolding outside_from
 outside_is_first test quote [] k less = absurd (omega arith)
-outside_is_first test quote (byte ∷ following) k less = by_test (is_closed quote && test byte) refl k less (λ i less. outside_is_first test (quote_following quote byte) following i less)
+outside_is_first test quote (byte ∷ following) k less = by_test (is_none quote && test byte) refl k less (λ i less. outside_is_first test (quote_following quote byte) following i less)
   where
-    by_test : (b : Bool) → (is_closed quote && test byte) ≡ b → (k : ℕ) → k < length (byte ∷ following)
-        → ((i : ℕ) → i < length following → (i < outside_from test (quote_following quote byte) following → (is_closed (quote_after (quote_following quote byte) (take i following)) && test (slice_index following i)) ≡ false)
-        × (i ≡ outside_from test (quote_following quote byte) following → (is_closed (quote_after (quote_following quote byte) (take i following)) && test (slice_index following i)) ≡ true))
-        → (k < cond b 0 (outside_from test (quote_following quote byte) following + 1) → (is_closed (quote_after quote (take k (byte ∷ following))) && test (slice_index (byte ∷ following) k)) ≡ false)
-        × (k ≡ cond b 0 (outside_from test (quote_following quote byte) following + 1) → (is_closed (quote_after quote (take k (byte ∷ following))) && test (slice_index (byte ∷ following) k)) ≡ true)
+    by_test : (b : Bool) → (is_none quote && test byte) ≡ b → (k : ℕ) → k < length (byte ∷ following)
+        → ((i : ℕ) → i < length following → (i < outside_from test (quote_following quote byte) following → (is_none (quote_after (quote_following quote byte) (take i following)) && test (slice_index following i)) ≡ false)
+        × (i ≡ outside_from test (quote_following quote byte) following → (is_none (quote_after (quote_following quote byte) (take i following)) && test (slice_index following i)) ≡ true))
+        → (k < cond b 0 (outside_from test (quote_following quote byte) following + 1) → (is_none (quote_after quote (take k (byte ∷ following))) && test (slice_index (byte ∷ following) k)) ≡ false)
+        × (k ≡ cond b 0 (outside_from test (quote_following quote byte) following + 1) → (is_none (quote_after quote (take k (byte ∷ following))) && test (slice_index (byte ∷ following) k)) ≡ true)
     by_test true is zero less others = (λ none. absurd (omega arith), λ same. is)
     by_test true is (suc i) less others = (λ none. absurd (omega arith), λ same. absurd (omega arith))
     by_test false is zero less others = (λ some. is, λ same. absurd (omega arith))

@@ -14,7 +14,8 @@ use Rattle.orca_meaning.specs.declared.operators.Operands.TheVariants.{Labels, S
 use Rattle.orca_meaning.specs.declared.operators.Operator as operators
 use Rattle.orca_meaning.specs.declared.operators.Sign as signs_type
 use Rattle.orca_meaning.specs.Characters.{is_name_start, is_name_byte, folded}
-use Rattle.orca_meaning.specs.Token.{Operand, Here, Number, Label, LengthOf, CountOf, Token, Value, Before, Between, Opens, Closes, Found, seen_as, digits_at, text_at, number_at, name_at, symbol_at, asked_by, attribute_at, location_at, other_operand_at, operand_at, spelled_at, signs, operators, sign_at, operator_at, byte_at, operand_token_at, operator_token_at, token_at, expects_following, Stand}
+use Rattle.orca_meaning.specs.Token.{Operand, Here, Number, Label, LengthOf, CountOf, Token, Value, Before, Between, Opens, Closes, Found, seen_as, digits_at, text_at, number_at, name_at, symbol_at, attribute_at, location_at, operand_at, spelled_at, sign_at, operator_at, byte_at, operand_token_at, operator_token_at, token_at, expects_following, Stand, asked_by}
+use Rattle.orca_meaning.specs.laws.Steps.{other_operand_at, signs, operators}
 
 -- ---- what is found
 

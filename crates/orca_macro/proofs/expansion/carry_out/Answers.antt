@@ -1,4 +1,5 @@
-use Rattle.macro_meaning.specs.Visit.{given_by, move_of}
+use Rattle.macro_meaning.specs.Visit.{move_of}
+use Rattle.macro_meaning.specs.laws.Steps.{given_by}
 use Rattle.orca_text.specs.View.{line}
 use Rattle.orca_macro.specs.EffectView.{effect_view}
 use Rattle.orca_macro.proofs.Runs.{visit_is}

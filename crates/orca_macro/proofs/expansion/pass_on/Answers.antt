@@ -1,6 +1,7 @@
 use Rattle.std.proofs.Common.{refl}
 use Rattle.macro_meaning.specs.Effect as meaning
-use Rattle.macro_meaning.specs.Visit.{given_by, move_of, setting_of}
+use Rattle.macro_meaning.specs.Visit.{move_of, setting_of}
+use Rattle.macro_meaning.specs.laws.Steps.{given_by}
 use Rattle.orca_text.specs.View.{line}
 use Rattle.orca_symbols.specs.View.{texts_of}
 use Rattle.orca_macro.proofs.Given.{given_line, moves_on}

@@ -1,5 +1,5 @@
 use Rattle.std.proofs.Common.{◌≡◌, false, take}
-use Rattle.macro_meaning.specs.Call.{is_among}
+use Rattle.macro_meaning.specs.laws.Steps.{is_among}
 use Rattle.orca_meaning.specs.Characters.{folded}
 use Rattle.orca_symbols.proofs.call.spelled_among.Given as goal
 

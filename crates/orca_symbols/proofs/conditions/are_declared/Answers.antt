@@ -2,7 +2,7 @@ use Rattle.std.proofs.Common.{sym, ◌∙◌, rules, tests}
 use Rattle.std.proofs.lemmas.Iterator.{YieldsList-from_slice}
 use Rattle.std.proofs.lemmas.Iterator.Search.{all_from_yields_List}
 use Rattle.std.proofs.lemmas.List.Folds.{list_all-map}
-use Rattle.macro_meaning.specs.Condition.{is_declared}
+use Rattle.macro_meaning.specs.laws.Steps.{is_declared}
 use Rattle.orca_symbols.specs.View.{values}
 use Rattle.orca_text.specs.View.{term}
 use Rattle.orca_symbols.proofs.conditions.are_declared.Goals as goal

@@ -1,6 +1,6 @@
 use Rattle.std.proofs.Common.{ap, sym, ◌∙◌}
 use Rattle.std.specs.List.{list_all}
-use Rattle.macro_meaning.specs.Condition.{is_declared}
+use Rattle.macro_meaning.specs.laws.Steps.{is_declared}
 use Rattle.orca_symbols.specs.View.{values}
 use Rattle.orca_symbols.proofs.Numbers.{no_formula, more_after, undeclared, too_large, too_deep, fine_terms, all_values, empty_rest, some_rest, not_deep}
 use Rattle.orca_symbols.proofs.conditions.long_number.Goals as goal

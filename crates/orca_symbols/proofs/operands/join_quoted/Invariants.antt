@@ -1,5 +1,6 @@
 use Rattle.std.proofs.Common.{◌≡◌, ◌≤◌, ◌-◌, length, drop, Some}
-use Rattle.macro_meaning.specs.Pieces.{joined_texts, appended_texts}
+use Rattle.macro_meaning.specs.Pieces.{joined_texts}
+use Rattle.macro_meaning.specs.laws.Steps.{appended_texts}
 use Rattle.orca_symbols.proofs.operands.join_quoted.Given as goal
 
 abbrev pub invariant-pieces : goal.invariant-pieces
