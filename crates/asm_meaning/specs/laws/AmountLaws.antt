@@ -11,7 +11,8 @@ use Rattle.omf_format.specs.Expression.{Operator, Location, Constant, Named, Off
 use Rattle.omf_format.specs.Value.{number_of_one, number_of_two, arithmetic, logical, comparison, bitwise, wrapped_to_32_bits, shifted_bits, truth, bits_of, signed, divides}
 use Rattle.orca_meaning.specs.Formula.{pending, values_of, with_location_less}
 use Rattle.asm_meaning.specs.Answer.{Answer}
-use Rattle.asm_meaning.specs.Constant.{Constants, AreSmall, KnownValue, Number, Open, Divided, number_or_open, worth_of_one, worth_of_two, known_value, number_or, with_values, Amount, Known, Written, amount_by, amount}
+use Rattle.asm_meaning.specs.Constant.{Constants, AreSmall, KnownValue, Number, Open, Divided, worth_of_two, known_value, with_values, Amount, Known, Written, amount}
+use Rattle.asm_meaning.specs.laws.Steps.{number_or_open, worth_of_one, number_or, amount_by}
 use Rattle.asm_meaning.specs.Formulas.{expression_text}
 
 -- ---- known values in place of names

@@ -19,7 +19,8 @@ use Rattle.asm_meaning.specs.declared.directives.Operation.TheVariants.{Instruct
 use Rattle.asm_meaning.specs.Constant as constant
 use Rattle.asm_meaning.specs.Constant.{Constants, Written, amount}
 use Rattle.asm_meaning.specs.Instruction as instructions
-use Rattle.asm_meaning.specs.Instruction.{Widths, instruction, kind_of, mode_of_tree, with_amount}
+use Rattle.asm_meaning.specs.Instruction.{Widths, instruction, kind_of, with_amount}
+use Rattle.asm_meaning.specs.laws.Steps.{mode_of_tree}
 use Rattle.asm_meaning.specs.Pieces.{records_of, records_after}
 use Rattle.asm_meaning.specs.State.{State, StartedSegment, cells_of, greatest_length, with_local_record, in_segment}
 use Rattle.asm_meaning.specs.Statement.{IsStep, IsDone, IsOperandOf, Good, constants_of}

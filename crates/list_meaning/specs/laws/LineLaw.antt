@@ -24,10 +24,11 @@ use Rattle.asm_meaning.specs.Formulas as formulas
 use Rattle.asm_meaning.specs.Formulas.{IsFormula}
 use Rattle.asm_meaning.specs.Operations as asm_operations
 use Rattle.asm_meaning.specs.Operations.{operation_of}
-use Rattle.asm_meaning.specs.State.{State, StartedSegment, cells_of, greatest_length, with_local_record, in_segment, is_too_long, within_length}
+use Rattle.asm_meaning.specs.State.{State, StartedSegment, cells_of, greatest_length, with_local_record, in_segment, within_length}
+use Rattle.asm_meaning.specs.laws.Steps.{is_too_long, IsPlaced}
 use Rattle.asm_meaning.specs.Statement as statement
 use Rattle.std.specs.Option.{option_map}
-use Rattle.asm_meaning.specs.Statement.{IsDone, begins_segment, label_of, IsStep, IsPlaced, is_misplaced, number_in}
+use Rattle.asm_meaning.specs.Statement.{IsDone, begins_segment, label_of, IsStep, is_misplaced, number_in}
 use Rattle.list_meaning.specs.laws.LineText.{IsLabelFront, IsOperation, HasNoBlank, IsTaken, laid}
 use Rattle.list_meaning.specs.Listed.{statement_text}
 use Rattle.list_meaning.specs.laws.Numbers.{number_means, hexadecimal_is}

@@ -27,8 +27,9 @@ use Rattle.asm_meaning.specs.declared.directives.Class.{Class}
 use Rattle.omf_base.specs.Digits.{hexadecimal}
 use Rattle.asm_meaning.specs.Operations.{operation_of}
 use Rattle.asm_meaning.specs.Pieces as pieces
-use Rattle.asm_meaning.specs.State.{State, StartedSegment, cells_of, greatest_length, with_local_record, with_records, in_segment, is_too_long, within_length, with_switch_set, state_after_end, state_after_start}
-use Rattle.asm_meaning.specs.Statement.{is_some_text, following_here, with_equate, equating, equating_global, constants_of, IsStep, IsDone, IsPlaced, is_misplaced, begins_segment, label_of, is_taken, load_name_of, is_alignment, switch_of, distance_in, IsMove, state_after_align, state_after_org, with_kind, listed_kind, alignment_in}
+use Rattle.asm_meaning.specs.State.{State, StartedSegment, cells_of, greatest_length, with_local_record, with_records, in_segment, within_length, with_switch_set, state_after_end, state_after_start}
+use Rattle.asm_meaning.specs.laws.Steps.{is_too_long, equating_global, IsPlaced, is_alignment}
+use Rattle.asm_meaning.specs.Statement.{following_here, with_equate, equating, constants_of, IsStep, IsDone, is_misplaced, begins_segment, label_of, is_taken, load_name_of, switch_of, distance_in, IsMove, state_after_align, state_after_org, with_kind, listed_kind, alignment_in}
 use Rattle.list_meaning.specs.laws.LineText.{IsLabelFront, HasNoBlank}
 use Rattle.list_meaning.specs.Listed.{statement_text}
 use Rattle.list_meaning.specs.laws.FormulaLaw.{IsPlainName}
@@ -219,7 +220,7 @@ next_align_step state number n here low power =
     (outside_to state (record state { align = n }) (line_of 0 number (statement_text [] (codes "ALIGN") (number_text 8 n))) (Direct directives.Align) [] (number_text 8 n) here refl
     (Some (Leaf (expression.Constant n)), number_formula 8 n fits, rw (number_there state n fits, allowed, same) refl) short)
 
-no_here : (text : List ℕ) → is_some_text (following_here (0x24 ∷ text)) ≡ false
+no_here : (text : List ℕ) → is_some (following_here (0x24 ∷ text)) ≡ false
 no_here [] = refl
 no_here (byte ∷ text) = refl
 

@@ -25,7 +25,8 @@ use Rattle.asm_meaning.specs.Pieces.{place_after}
 use Rattle.asm_meaning.specs.laws.PieceLaws.{all-append, place_after-append}
 use Rattle.asm_meaning.specs.laws.ObjectFileLaws.{same_place}
 use Rattle.asm_meaning.specs.State as states
-use Rattle.asm_meaning.specs.State.{State, StartedSegment, FinishedSegment, state_after_start, state_after_end, with_local_record, in_segment, ended_of, bank_size_of, no_names}
+use Rattle.asm_meaning.specs.State.{State, StartedSegment, FinishedSegment, state_after_start, state_after_end, with_local_record, in_segment, bank_size_of, no_names}
+use Rattle.asm_meaning.specs.laws.Steps.{ended_of}
 use Rattle.asm_meaning.specs.Statement.{IsStep, value_in}
 use Rattle.list_meaning.specs.Listed.{ListedStatement, NextAlignIs, NextOrg, StartIs, KindIs, SwitchIs, Ds, EndIs, said_text}
 use Rattle.list_meaning.specs.Listing as listing
