@@ -1,5 +1,5 @@
 -- The law on one line, for DC A with a formula.
-use Rattle.std.proofs.Common.{◌≡◌, ℕ, ◌+◌, ◌^◌, ◌≤◌, Bool, true, false, cond, ltb, List, [], ◌∷◌, ◌++◌, length, take, drop, Some, None, Ok, refl, sym, ap, ◌∙◌, arith, append_assoc}
+use Rattle.std.proofs.Common.{◌≡◌, ℕ, ◌+◌, ◌^◌, ◌≤◌, Bool, true, false, cond, eqb, ltb, List, [], ◌∷◌, ◌++◌, length, take, drop, Some, None, Ok, refl, sym, ap, ◌∙◌, arith, append_assoc}
 use Rattle.std.specs.Prelude.{◌==◌, ◌||◌, nat_lt}
 use Rattle.std.specs.List.{AllByRecursion, list_any, position_or_len}
 use Rattle.std.proofs.lemmas.Bool.{le-ltb, lt-ltb, lt-leb}
@@ -12,6 +12,7 @@ use Rattle.omf_format.specs.Record.{Formula}
 use Rattle.orca_meaning.specs.Formula.{pending, has_large, is_large}
 use Rattle.orca_meaning.specs.Token as tokens
 use Rattle.asm_meaning.specs.Constant.{Constants, KnownValue, Number, Open, Divided, known_value, worth_of_two, with_values, amount}
+use Rattle.asm_meaning.specs.laws.Steps.{number_or}
 use Rattle.asm_meaning.specs.Elements as elements
 use Rattle.asm_meaning.specs.Elements.{Element, list_pieces}
 use Rattle.asm_meaning.specs.Formulas.{expression_text, checked_formula}
@@ -44,7 +45,10 @@ same_values : (constants : Constants) (t : Tree) → CanWrite t → AreUnknown c
 same_values constants (Leaf (expression.Operator code)) can are = refl
 same_values constants (Leaf expression.Location) can are = refl
 same_values constants (Leaf (expression.Constant n)) can are = refl
-same_values constants (Leaf (expression.Named code name)) can are = rw (can.0, are) (ap (λ (c : ℕ). Leaf (expression.Named c name)) refl)
+same_values constants (Leaf (expression.Named code name)) can are = same
+  where
+    same : Leaf (cond (eqb code 0x83) (number_or (expression.Named code name) (constants name)) (expression.Named code name)) ≡ Leaf (expression.Named code name)
+    same = rw (can.0, are) (ap (λ (c : ℕ). Leaf (expression.Named c name)) refl)
 same_values constants (Leaf (expression.Offset n)) can are = refl
 same_values constants (Unary code a) can are = ap (λ (x : Tree). Unary code x) (same_values constants a can.1 are)
 same_values constants (Binary code a b) can are = ap (λ (x : Tree). Binary code x (with_values constants b)) (same_values constants a can.1 are.0) ∙ ap (λ (x : Tree). Binary code a x) (same_values constants b can.2 are.1)
