@@ -11,6 +11,7 @@ use Rattle.omf_format.specs.Field.{◌>>=◌}
 use Rattle.omf_format.specs.Record.{Formula}
 use Rattle.orca_meaning.specs.Formula.{pending, has_large, is_large}
 use Rattle.orca_meaning.specs.Token as tokens
+use Rattle.asm_meaning.specs.Answer.{all_of}
 use Rattle.asm_meaning.specs.Constant.{Constants, KnownValue, Number, Open, Divided, known_value, worth_of_two, with_values, amount}
 use Rattle.asm_meaning.specs.laws.Steps.{number_or}
 use Rattle.asm_meaning.specs.Elements as elements
@@ -94,7 +95,7 @@ pub sum_gives : (constants : Constants) (msb : Bool) (count : ℕ) (t : Tree) �
     → (list_pieces constants msb (Some (element_of count t ∷ [])) >>= λ pieces. Ok (records_of pieces)) ≡ Ok (Formula 0xEB count 0 (expression_text t) ∷ [])
 unfolding elements.element_pieces checked_formula amount records_after
 sum_gives constants msb count t can are open' few =
-    rw (le-ltb 64 (pending 1 t) few, no_large t can, open_worth constants t can are open', same_values constants t can are) refl
+    rw (all_of, le-ltb 64 (pending 1 t) few, no_large t can, open_worth constants t can are open', same_values constants t can are) refl
 
 -- no quote is among the bytes
 abbrev pub HasNoQuote : List ℕ → Type 0
