@@ -51,14 +51,9 @@ pub data ListedStatement : Type 0 where
 
 -- ---- how it is written
 
--- a text with a space before it, unless it is empty
-abbrev pub with_leading_space : List ℕ → List ℕ
-with_leading_space [] = []
-with_leading_space (byte ∷ text) = ascii.space ∷ byte ∷ text
-
--- a label or none, an operation and an operand or none
+-- a label or none, an operation, and an operand with a space before it, or none
 abbrev pub statement_text : List ℕ → List ℕ → List ℕ → List ℕ
-statement_text label operation operand = label ++ (ascii.space ∷ (operation ++ with_leading_space operand))
+statement_text label operation operand = label ++ (ascii.space ∷ (operation ++ elim operand [ [] ↦ [] | byte ∷ text ↦ ascii.space ∷ byte ∷ text ]))
 
 -- a number as it is written: `$`, and a given number of digits
 abbrev pub number_text : ℕ → ℕ → List ℕ

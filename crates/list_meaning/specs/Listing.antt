@@ -34,36 +34,27 @@ without_padding text = take (position_or_len (λ byte. byte == ascii.space) text
 
 -- ---- the lines before a segment's records
 
--- code, data, initialization, and direct page and stack
-abbrev pub is_listed_form : ℕ → Bool
-is_listed_form form = list_any (λ t. t == form) (0x00 ∷ 0x01 ∷ 0x10 ∷ 0x12 ∷ [])
-
 -- LOADNAME is spaces, or a name that can be written unchanged with spaces after it
 abbrev pub is_listable_load_name : List ℕ → Bool
 is_listable_load_name text =
     list_all (λ byte. byte == ascii.space) (drop (position_or_len (λ byte. byte == ascii.space) text) text)
     && (bytes_eq (without_padding text) [] || is_listable (without_padding text))
 
--- the greatest LENGTH, where the segment may cross banks and where it may not
-abbrev pub greatest_length : ℕ → ℕ
-greatest_length bank_size = if bank_size == 0 then 0xFFFFFF else 0x10000
-
 -- an ALIGN of 0 away from place 0: no number of zeros meets it
 abbrev pub is_lost : ℕ → Record → Bool
 is_lost at (Align n) = n == 0 && not (at == 0)
 is_lost at _ = false
 
--- an ALIGN of 0 is at another place than 0
-abbrev pub has_lost_place : Segment → Bool
-has_lost_place s = list_any (λ l. is_lost l.location l.content) (records_with_offsets s)
-
--- the header can be listed: its type, its names, BANKSIZE, ALIGN and ENTRY, and LENGTH is the number of cells
+-- The header can be listed: its type is code, data, initialization, or direct page and stack; its names, BANKSIZE, ALIGN and
+-- ENTRY; no ALIGN of 0 is at another place than 0; and LENGTH is the number of cells, with a bound where the segment may cross
+-- banks and another where it may not.
 abbrev pub has_listable_header : Segment → Bool
 has_listable_header s =
-    is_listed_form (form_of s.fields.kind) && is_listable s.fields.name && is_listable_load_name s.fields.load_name
+    list_any (λ t. t == form_of s.fields.kind) (0x00 ∷ 0x01 ∷ 0x10 ∷ 0x12 ∷ []) && is_listable s.fields.name && is_listable_load_name s.fields.load_name
     && (s.fields.bank_size == 0 || s.fields.bank_size == 0x10000)
     && (s.fields.align == 0 || (is_power_of_two s.fields.align && nat_le s.fields.align 0x10000)) && s.fields.entry == 0
-    && not (has_lost_place s) && s.fields.length == body_size s + s.fields.res_spc && nat_le s.fields.length (greatest_length s.fields.bank_size)
+    && not (list_any (λ l. is_lost l.location l.content) (records_with_offsets s)) && s.fields.length == body_size s + s.fields.res_spc
+    && nat_le s.fields.length (if s.fields.bank_size == 0 then 0xFFFFFF else 0x10000)
 
 -- a line with a number that isn't 0
 abbrev pub unless_zero : (ℕ → ListedStatement) → ℕ → List ListedStatement
@@ -218,14 +209,11 @@ abbrev pub dc_of_formula : ℕ → Tree → Option (List ℕ) → ListedStatemen
 dc_of_formula count tree None = FormulaIs count tree
 dc_of_formula count tree (Some name) = WeakIs name
 
--- the last byte is an opcode that has this record, at the widths after the run without it
-abbrev pub is_held : PendingRun → ℕ → ℕ → ℕ → List ℕ × ℕ → Bool
-is_held b code count n found = is_record code count n (record_of_opcode (widths_rest b.widths 0 found.0) found.1)
-
--- the lines of an expression record: an instruction with the byte that is held back, or a DC
+-- The lines of an expression record: an instruction with the byte before it, where that is an opcode that has this record at the
+-- widths after the run without it; or a DC.
 unfoldable pub formula_given : PendingRun → ℕ → ℕ → ℕ → Tree → Option (List ℕ × ℕ) → Option Wanted → Given
 formula_given b code count n tree (Some found) (Some wanted) =
-    if is_held b code count n found
+    if is_record code count n (record_of_opcode (widths_rest b.widths 0 found.0) found.1)
     then then_said (Instructs (instruction_of_opcode found.1).0 (instruction_of_opcode found.1).1 wanted ∷ []) (with_run_written (record b { run = found.0 }))
     else then_said (dc_of_formula count tree (weak_of tree) ∷ []) (with_run_written b)
 formula_given b code count n tree (Some found) None = then_said (dc_of_formula count tree (weak_of tree) ∷ []) (with_run_written b)

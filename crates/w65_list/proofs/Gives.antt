@@ -8,8 +8,8 @@ use Rattle.omf_format.specs.Record as format
 use Rattle.object_meaning.specs.laws.TreeInLaws.{tree_in-again}
 use Rattle.list_meaning.specs.Listed.{ListedStatement, Wanted}
 use Rattle.list_meaning.specs.Listing as listing
-use Rattle.list_meaning.specs.Listing.{Given, if_short, then_said, with_run_written, split_last, is_held, dc_of_formula, weak_of, simple_of, number_of, formula_given, formula_listable, term_listable, term_may_stand, is_open, equate_given, given_by}
-use Rattle.list_meaning.specs.laws.Steps.{are_short, after_byte, held_back, expr_listable, follows_opcode, on_tree}
+use Rattle.list_meaning.specs.Listing.{Given, if_short, then_said, with_run_written, split_last, dc_of_formula, weak_of, simple_of, number_of, formula_given, formula_listable, term_listable, term_may_stand, is_open, equate_given, given_by}
+use Rattle.list_meaning.specs.laws.Steps.{are_short, after_byte, held_back, expr_listable, follows_opcode, on_tree, is_held}
 use Rattle.list_lines.specs.declared.output.ListingText.{ListingText}
 use Rattle.w65_list.specs.declared.records.PendingRun.{PendingRun}
 use Rattle.w65_list.specs.Giving.{Gave, IsGiven, held_by, held_with, equate_by}

@@ -36,7 +36,6 @@ use Rattle.list_meaning.specs.laws.FormulaLaw.{IsPlainName}
 use Rattle.list_meaning.specs.laws.HeldLaw.{name_ink}
 use Rattle.list_meaning.specs.laws.LineLaw.{step_of, inside, number_ink, number_formula, number_there}
 use Rattle.list_meaning.specs.Listed.{number_text}
-use Rattle.list_meaning.specs.Listed as listed
 use Rattle.list_meaning.specs.Listed.{StartIs, Equates, Labels, UsingIs, SwitchIs, KindIs, Aligns, OrgIs, EndIs, NextAlignIs, NextOrg, said_text}
 use Rattle.list_meaning.specs.laws.Steps.{on_text}
 

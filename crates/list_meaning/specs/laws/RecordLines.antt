@@ -28,8 +28,8 @@ use Rattle.asm_meaning.specs.laws.PieceLaws.{all-append}
 use Rattle.list_meaning.specs.Listed as listed
 use Rattle.list_meaning.specs.Listed.{ListedStatement, Aligns, OrgIs, Ds, UsingIs, StrongIs, Labels, Equates, Instructs, WeakIs, FormulaIs, Wanted, Moved}
 use Rattle.list_meaning.specs.Listing as listing
-use Rattle.list_meaning.specs.Listing.{PendingRun, Given, instruction_of_opcode, said_rest, widths_rest, is_listable, is_among, simple_of, weak_of, record_by, is_record, with_run_written, then_said, with_name, split_last, dc_of_formula, is_held, formula_given, formula_listable, term_listable, term_may_stand, is_open, both_long, if_short, number_of, equate_given, given_by}
-use Rattle.list_meaning.specs.laws.Steps.{after_byte, held_back, follows_opcode, are_short, on_tree, expr_listable}
+use Rattle.list_meaning.specs.Listing.{PendingRun, Given, instruction_of_opcode, said_rest, widths_rest, is_listable, is_among, simple_of, weak_of, record_by, is_record, with_run_written, then_said, with_name, split_last, dc_of_formula, formula_given, formula_listable, term_listable, term_may_stand, is_open, both_long, if_short, number_of, equate_given, given_by}
+use Rattle.list_meaning.specs.laws.Steps.{after_byte, held_back, follows_opcode, are_short, on_tree, expr_listable, is_held}
 use Rattle.list_meaning.specs.Flat.{parts_from, respelled, text_or}
 use Rattle.list_meaning.specs.Given.{records_said, name_said, widths_said, code_of, tree_of}
 use Rattle.list_meaning.specs.laws.BytesLine.{AreBytes}

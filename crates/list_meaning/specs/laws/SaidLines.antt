@@ -26,8 +26,8 @@ use Rattle.asm_meaning.specs.declared.directives.Switch.TheVariants.{LongA, Long
 use Rattle.asm_meaning.specs.Instruction.{Widths}
 use Rattle.asm_meaning.specs.State.{no_constants}
 use Rattle.list_meaning.specs.Listed as listed
-use Rattle.list_meaning.specs.Listed.{ListedStatement, NextAlignIs, NextOrg, StartIs, KindIs, SwitchIs, Ds, Aligns, OrgIs, UsingIs, StrongIs, Labels, Equates, Instructs, Bytes, WeakIs, FormulaIs, EndIs, Wanted, None', Number, Banks, Label, Moved, said_text, with_leading_space, statement_text, number_text, wanted_text, quoted_value, formula_text, spelling_of}
-use Rattle.list_meaning.specs.laws.Steps.{operand_text, on_text}
+use Rattle.list_meaning.specs.Listed.{ListedStatement, NextAlignIs, NextOrg, StartIs, KindIs, SwitchIs, Ds, Aligns, OrgIs, UsingIs, StrongIs, Labels, Equates, Instructs, Bytes, WeakIs, FormulaIs, EndIs, Wanted, None', Number, Banks, Label, Moved, said_text, statement_text, number_text, wanted_text, quoted_value, formula_text, spelling_of}
+use Rattle.list_meaning.specs.laws.Steps.{operand_text, on_text, with_leading_space}
 use Rattle.list_meaning.specs.Listing.{is_short}
 use Rattle.list_meaning.specs.laws.LineText.{HasNoBlank, IsOperation, IsLabelFront, laid_three, no_comment}
 use Rattle.list_meaning.specs.laws.Expands.{IsPlainLine, IsOfAssembler, Other, Labelled, HasNoSymbol, HasNoDot}

@@ -30,8 +30,8 @@ use Rattle.asm_meaning.specs.laws.Steps.{ended_of}
 use Rattle.asm_meaning.specs.Statement.{IsStep, value_in}
 use Rattle.list_meaning.specs.Listed.{ListedStatement, NextAlignIs, NextOrg, StartIs, KindIs, SwitchIs, Ds, EndIs, said_text}
 use Rattle.list_meaning.specs.Listing as listing
-use Rattle.list_meaning.specs.Listing.{PendingRun, Given, without_padding, is_listable, is_listable_load_name, is_listed_form, greatest_length, has_lost_place, has_listable_header, unless_zero, front_of, widths_rest, said_rest, is_among, is_short, given_by, with_run_written, then_said, equate_name, said_from, both_long, listing_of, listing_from}
-use Rattle.list_meaning.specs.laws.Steps.{is_padded, are_short, equates_of, or_record, at_front}
+use Rattle.list_meaning.specs.Listing.{PendingRun, Given, without_padding, is_listable, is_listable_load_name, has_listable_header, unless_zero, front_of, widths_rest, said_rest, is_among, is_short, given_by, with_run_written, then_said, equate_name, said_from, both_long, listing_of, listing_from}
+use Rattle.list_meaning.specs.laws.Steps.{is_padded, are_short, equates_of, or_record, at_front, is_listed_form, greatest_length, has_lost_place}
 use Rattle.list_meaning.specs.Flat.{contents_of}
 use Rattle.list_meaning.specs.Given.{name_said, widths_said, Opens, Closes}
 use Rattle.list_meaning.specs.laws.BytesLine.{AreBytes}

@@ -1,5 +1,5 @@
 -- Steps of definitions: the words that the lemmas have for parts of them.
-use Rattle.std.specs.Prelude.{ℕ, ◌==◌, Bool, false, ◌&&◌, List, [], ◌∷◌, drop, Option, Some, None, Result, if◌then◌else◌, ◌++◌, codes, is_some, option_and_then, ok_or}
+use Rattle.std.specs.Prelude.{ℕ, ◌==◌, Bool, false, ◌&&◌, List, [], ◌∷◌, drop, Option, Some, None, Result, if◌then◌else◌, ◌++◌, codes, is_some, option_and_then, ok_or, ◌+◌}
 use Rattle.std.specs.List.{list_all, list_any, position_or_len, flat_map}
 use Rattle.omf_format.specs.Ascii as ascii
 use Rattle.omf_format.specs.Expression.{Tree, terms_of}
@@ -11,7 +11,8 @@ use Rattle.orca_meaning.specs.declared.modes.Mode.{Mode}
 use Rattle.orca_meaning.specs.declared.modes.Mode.TheVariants.{Signature}
 use Rattle.orca_meaning.specs.Matrix.{Instruction}
 use Rattle.list_meaning.specs.Listed.{ListedStatement, Instructs, Bytes, Wanted, shape_of, wanted_text, said_text}
-use Rattle.list_meaning.specs.Listing.{instruction_of_opcode, weak_of, record_of_opcode, is_record, PendingRun, Given, with_run_written, then_said, term_may_stand, is_open, both_long, is_short, equate_name}
+use Rattle.list_meaning.specs.Listing.{instruction_of_opcode, weak_of, record_of_opcode, is_record, PendingRun, Given, with_run_written, then_said, term_may_stand, is_open, both_long, is_short, equate_name, is_lost, widths_rest}
+use Rattle.object_meaning.specs.Sizes.{records_with_offsets}
 
 -- the instruction of an opcode
 abbrev pub or_brk : Option Instruction → Instruction
@@ -84,3 +85,24 @@ sign_text adds = if adds then codes "+" else codes "-"
 -- an operand in its mode
 abbrev pub operand_text : Mode → Wanted → List ℕ
 operand_text mode wanted = (shape_of mode).0 ++ (wanted_text wanted ++ (shape_of mode).1)
+
+-- code, data, initialization, and direct page and stack
+abbrev pub is_listed_form : ℕ → Bool
+is_listed_form form = list_any (λ t. t == form) (0x00 ∷ 0x01 ∷ 0x10 ∷ 0x12 ∷ [])
+
+-- an ALIGN of 0 is at another place than 0
+abbrev pub has_lost_place : Segment → Bool
+has_lost_place s = list_any (λ l. is_lost l.location l.content) (records_with_offsets s)
+
+-- the last byte is an opcode that has this record, at the widths after the run without it
+abbrev pub is_held : PendingRun → ℕ → ℕ → ℕ → List ℕ × ℕ → Bool
+is_held b code count n found = is_record code count n (record_of_opcode (widths_rest b.widths 0 found.0) found.1)
+
+-- the greatest LENGTH, where the segment may cross banks and where it may not
+abbrev pub greatest_length : ℕ → ℕ
+greatest_length bank_size = if bank_size == 0 then 0xFFFFFF else 0x10000
+
+-- a text with a space before it, unless it is empty
+abbrev pub with_leading_space : List ℕ → List ℕ
+with_leading_space [] = []
+with_leading_space (byte ∷ text) = ascii.space ∷ byte ∷ text
