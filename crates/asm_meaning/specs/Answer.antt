@@ -44,11 +44,7 @@ pair_or_earlier_fault (Ok a) (Err cause) = Err cause
 pair_or_earlier_fault (Err cause) (Ok b) = Err cause
 pair_or_earlier_fault (Err cause) (Err other) = Err (earlier cause other)
 
-abbrev pub with_first : {A : Type 0} → Answer (A × List A) → Answer (List A)
-with_first (Ok (a, more)) = Ok (a ∷ more)
-with_first (Err cause) = Err cause
-
 -- each of these, or the earliest of their faults
 abbrev pub all_of : {A B : Type 0} → (A → Answer B) → List A → Answer (List B)
 all_of f [] = Ok []
-all_of f (a ∷ more) = with_first (pair_or_earlier_fault (f a) (all_of f more))
+all_of f (a ∷ more) = elim (pair_or_earlier_fault (f a) (all_of f more)) [ Ok (first, others) ↦ Ok (first ∷ others) | Err cause ↦ Err cause ]

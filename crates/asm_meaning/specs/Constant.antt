@@ -22,23 +22,6 @@ pub data KnownValue : Type 0 where
   Open : KnownValue
   Divided : KnownValue
 
-abbrev pub number_or_open : Option ℕ → KnownValue
-number_or_open None = Open
-number_or_open (Some n) = Number n
-
--- of a name ($83) its value, and of its length or its count nothing
-abbrev pub worth_of_term : Constants → Term → KnownValue
-worth_of_term constants (Operator code) = Open
-worth_of_term constants Location = Open
-worth_of_term constants (Constant n) = Number n
-worth_of_term constants (Named code name) = if code == 0x83 then number_or_open (constants name) else Open
-worth_of_term constants (Offset n) = Open
-
-abbrev pub worth_of_one : ℕ → KnownValue → KnownValue
-worth_of_one code (Number a) = Number (number_of_one code a)
-worth_of_one code Open = Open
-worth_of_one code Divided = Divided
-
 -- a formula that is open is no constant, whatever it divides
 abbrev pub worth_of_two : ℕ → KnownValue → KnownValue → KnownValue
 worth_of_two code (Number a) (Number b) = if divides code && b == 0 then Divided else Number (number_of_two code a b)
@@ -49,10 +32,14 @@ worth_of_two code Divided (Number b) = Divided
 worth_of_two code Divided Open = Open
 worth_of_two code Divided Divided = Divided
 
--- the value of a formula where these names are known
+-- the value of a formula where these names ($83) are known, and nothing is of their lengths and counts
 unfoldable pub known_value : Constants → Tree → KnownValue
-known_value constants (Leaf term) = worth_of_term constants term
-known_value constants (Unary code a) = worth_of_one code (known_value constants a)
+known_value constants (Leaf term) = elim term [
+  | Constant n ↦ Number n
+  | Named code name ↦ if code == 0x83 then elim (constants name) [ Some n ↦ Number n | None ↦ Open ] else Open
+  | _ ↦ Open
+]
+known_value constants (Unary code a) = elim (known_value constants a) [ Number n ↦ Number (number_of_one code n) | Open ↦ Open | Divided ↦ Divided ]
 known_value constants (Binary code a b) = worth_of_two code (known_value constants a) (known_value constants b)
 
 -- the number, where one is needed
@@ -63,15 +50,11 @@ required_number Divided = Err DivideByZero
 
 -- ---- what is written of a formula that isn't a constant
 
-abbrev pub number_or : Term → Option ℕ → Term
-number_or term None = term
-number_or term (Some n) = Constant n
-
 abbrev pub term_with_values : Constants → Term → Term
 term_with_values constants (Operator code) = Operator code
 term_with_values constants Location = Location
 term_with_values constants (Constant n) = Constant n
-term_with_values constants (Named code name) = if code == 0x83 then number_or (Named code name) (constants name) else Named code name
+term_with_values constants (Named code name) = if code == 0x83 then elim (constants name) [ Some n ↦ Constant n | None ↦ Named code name ] else Named code name
 term_with_values constants (Offset n) = Offset n
 
 -- each known constant gives its value
@@ -85,13 +68,13 @@ pub data Amount : Type 0 where
   Known : (n : ℕ) → Amount
   Written : (tree : Tree) → Amount
 
-abbrev pub amount_by : Tree → KnownValue → Answer Amount
-amount_by tree (Number n) = Ok (Known n)
-amount_by tree Open = Ok (Written tree)
-amount_by tree Divided = Err DivideByZero
-
+-- a formula is a number, or the expression that is written of it with the values of its constants
 unfoldable pub amount : Constants → Tree → Answer Amount
-amount constants tree = amount_by (with_values constants tree) (known_value constants tree)
+amount constants tree = elim (known_value constants tree) [
+  | Number n ↦ Ok (Known n)
+  | Open ↦ Ok (Written (with_values constants tree))
+  | Divided ↦ Err DivideByZero
+]
 
 -- the expression of an amount; that of a number is the number
 abbrev pub tree_of_amount : Amount → Tree

@@ -45,12 +45,6 @@ unfoldable pub bytes_of_group_digits : ℕ → ℕ → ℕ → List ℕ → List
 bytes_of_group_digits base each zero digits = []
 bytes_of_group_digits base each (suc n) digits = digits_value base (take each (digits ++ replicate each ascii.digit_0)) ∷ bytes_of_group_digits base each n (drop each digits)
 
-abbrev pub is_space : ℕ → Bool
-is_space byte = byte == ascii.space
-
-abbrev pub without_spaces : List ℕ → List ℕ
-without_spaces text = filter (λ byte. not (is_space byte)) text
-
 abbrev pub packed_digits : ℕ → ℕ → List ℕ → Option (List ℕ)
 packed_digits base each [] = None
 packed_digits base each (digit ∷ digits) =
@@ -59,7 +53,7 @@ packed_digits base each (digit ∷ digits) =
 
 -- the bytes of digits, of which there is one at least, with spaces between them: two hexadecimal ones a byte, or eight binary ones
 unfoldable pub bytes_of_digits : ℕ → ℕ → List ℕ → Option (List ℕ)
-bytes_of_digits base each text = packed_digits base each (without_spaces text)
+bytes_of_digits base each text = packed_digits base each (filter (λ byte. not (byte == ascii.space)) text)
 
 -- ---- values
 
@@ -134,13 +128,11 @@ after_parenthesis [] = None
 after_parenthesis (byte ∷ following) = if byte == ascii.opening_round then Some following else None
 
 -- the repeat count of an element, at the start: a formula in parentheses, decimal digits, or nothing
-abbrev pub IsRepeatBy : Option (List ℕ) → Found ℕ → List ℕ → Repeat → List ℕ → Type 0
-IsRepeatBy (Some following) digits text repeat rest = (tree : Tree) × MeansAt Labels following tree (ascii.closing_round ∷ rest) × (repeat ≡ Computed tree)
-IsRepeatBy None (Some found) text repeat rest = (repeat ≡ Digits found.0) × (rest ≡ found.1)
-IsRepeatBy None None text repeat rest = (repeat ≡ Once) × (rest ≡ text)
-
 abbrev pub IsRepeatAt : List ℕ → Repeat → List ℕ → Type 0
-IsRepeatAt text repeat rest = IsRepeatBy (after_parenthesis text) (digits_at 10 text) text repeat rest
+IsRepeatAt text repeat rest = elim (after_parenthesis text) [
+  | Some following ↦ (tree : Tree) × MeansAt Labels following tree (ascii.closing_round ∷ rest) × (repeat ≡ Computed tree)
+  | None ↦ elim (digits_at 10 text) [ Some found ↦ (repeat ≡ Digits found.0) × (rest ≡ found.1) | None ↦ (repeat ≡ Once) × (rest ≡ text) ]
+]
 
 -- an element is at the start: its repeat count, its type, and its value in quotes
 pub record IsElementAt (text : List ℕ) (element : Element) (rest : List ℕ) : Type 0 where
@@ -177,23 +169,13 @@ number_piece width (Written tree) = Whole (Formula EXPR width 0 (expression_text
 abbrev pub piece_of_number : Constants → ℕ → Tree → Answer Piece
 piece_of_number constants width tree = checked_formula tree >>= λ t. amount constants t >>= λ a. Ok (number_piece width a)
 
--- with MSB on the bytes of a text have their high bits set
-abbrev pub text_byte : Bool → ℕ → ℕ
-text_byte msb byte = if msb then bit_or byte 0x80 else byte
-
--- EXPR of two bytes with the weak name ($82)
-abbrev pub weak_piece : List ℕ → Piece
-weak_piece name = Whole (Formula EXPR 2 0 (expression_text (Leaf (Named 0x82 name))))
-
-abbrev pub strong_piece : List ℕ → Piece
-strong_piece name = Whole (Strong name)
-
+-- what a value gives: a text has its high bits set where MSB is on, R gives STRONG, and S an EXPR of two bytes with the weak name ($82)
 abbrev pub value_pieces : Constants → Bool → ElementValue → Answer (List Piece)
 value_pieces constants msb (Numbers width trees) = all_of (piece_of_number constants width) trees
 value_pieces constants msb (Fixed bytes) = Ok (Bytes bytes ∷ [])
-value_pieces constants msb (Text bytes) = Ok (Bytes (map (text_byte msb) bytes) ∷ [])
-value_pieces constants msb (Asked names) = Ok (map strong_piece names)
-value_pieces constants msb (Weak names) = Ok (map weak_piece names)
+value_pieces constants msb (Text bytes) = Ok (Bytes (map (λ byte. if msb then bit_or byte 0x80 else byte) bytes) ∷ [])
+value_pieces constants msb (Asked names) = Ok (map (λ name. Whole (Strong name)) names)
+value_pieces constants msb (Weak names) = Ok (map (λ name. Whole (Formula EXPR 2 0 (expression_text (Leaf (Named 0x82 name))))) names)
 
 -- what an element gives: its value, repeated by its count
 unfoldable pub element_pieces : Constants → Bool → Element → Answer (List Piece)
@@ -205,9 +187,6 @@ abbrev pub IsList : List ℕ → Option (List Element) → Type 0
 IsList text None = (elements : List Element) → AreElements text elements → ⊥
 IsList text (Some elements) = AreElements text elements
 
-abbrev pub joined_pieces : List (List Piece) → List Piece
-joined_pieces all = flat_map (λ pieces. pieces) all
-
 abbrev pub list_pieces : Constants → Bool → Option (List Element) → Answer (List Piece)
 list_pieces constants msb None = Err BadOperand
-list_pieces constants msb (Some elements) = all_of (element_pieces constants msb) elements >>= λ found. Ok (joined_pieces found)
+list_pieces constants msb (Some elements) = all_of (element_pieces constants msb) elements >>= λ found. Ok (flat_map (λ pieces. pieces) found)

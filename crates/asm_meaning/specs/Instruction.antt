@@ -1,6 +1,6 @@
 -- Instructions: which addressing mode an operand has, and what the instruction gives (WDC 65C816 data sheet, addressing
 -- modes; GS/OS Reference, appendix F, expression records; the choice of the narrowest mode is this project's own).
-use Rattle.std.specs.Prelude.{ℕ, ◌-◌, ◌/◌, ◌^◌, Bool, true, false, ◌||◌, ◌&&◌, ◌==◌, nat_lt, nat_le, List, [], ◌∷◌, filter, find, Option, Some, None, Ok, Err, if◌then◌else◌}
+use Rattle.std.specs.Prelude.{unwrap_or, ℕ, ◌-◌, ◌/◌, ◌^◌, Bool, true, false, ◌||◌, ◌&&◌, ◌==◌, nat_lt, nat_le, List, [], ◌∷◌, filter, find, Option, Some, None, Ok, Err, if◌then◌else◌}
 use Rattle.byteorder.specs.Endian.{little_bytes}
 use Rattle.omf_format.specs.declared.codes.TheConstants.{EXPR, ZEXPR, BEXPR, RELEXPR, LEXPR}
 use Rattle.omf_format.specs.Field.{◌>>=◌}
@@ -114,21 +114,10 @@ modes_of_form mnemonic form prefix = filter (λ mode. has_mode mnemonic mode && 
 
 -- ---- constants
 
--- `#>` means the value shifted right by 8, and `#^` by 16
-abbrev pub value_shift : Prefix → ℕ
-value_shift Bare = 0
-value_shift Less = 0
-value_shift Bar = 0
-value_shift Greater = 8
-value_shift Caret = 16
-
-abbrev pub is_bare : Prefix → Bool
-is_bare Bare = true
-is_bare _ = false
-
 -- a value without a prefix fits its bytes as an unsigned number or as one in two's complement of 32 bits
 abbrev pub fits_value : Prefix → ℕ → ℕ → Bool
-fits_value prefix width n = if is_bare prefix then nat_lt n (256 ^ width) || nat_le (2 ^ 32 - 256 ^ width / 2) n else true
+fits_value Bare width n = nat_lt n (256 ^ width) || nat_le (2 ^ 32 - 256 ^ width / 2) n
+fits_value _ width n = true
 
 -- whether the operand can be this number in a given number of bytes: an address, a bank and a signature as an unsigned one; a branch
 -- leaves that to the linker
@@ -140,22 +129,14 @@ is_operand_of_width prefix (Distance bytes) width n = true
 is_operand_of_width prefix Banks width n = nat_lt n 256
 is_operand_of_width prefix Sign width n = nat_lt n (256 ^ width)
 
-abbrev pub or_fault : {A : Type 0} → Option A → Answer A
-or_fault None = Err DoesNotFit
-or_fault (Some a) = Ok a
-
 -- a constant takes the first mode that holds it
 abbrev pub mode_of_number : Widths → Mnemonic → Prefix → ℕ → List Mode → Answer Mode
 mode_of_number widths mnemonic prefix n modes =
-    or_fault (find (λ mode. is_operand_of_width prefix (kind_of mode) (operand_bytes widths mnemonic mode) n) modes)
+    elim (find (λ mode. is_operand_of_width prefix (kind_of mode) (operand_bytes widths mnemonic mode) n) modes) [ Some mode ↦ Ok mode | None ↦ Err DoesNotFit ]
 
 abbrev pub or_first : Mode → Option Mode → Mode
 or_first first None = first
 or_first first (Some found) = found
-
--- a formula that is no constant takes the address of two bytes where there is one, and else the first mode
-abbrev pub mode_of_tree : Mode → List Mode → Mode
-mode_of_tree mode modes = or_first mode (find (λ other. is_address 2 (kind_of other)) (mode ∷ modes))
 
 -- ---- what is written
 
@@ -163,9 +144,10 @@ mode_of_tree mode modes = or_first mode (find (λ other. is_address 2 (kind_of o
 abbrev pub with_right_shift : ℕ → Tree → Tree
 with_right_shift count tree = if count == 0 then tree else Binary 0x07 tree (Leaf (Constant (2 ^ 32 - count)))
 
--- the shift of an operand: that of a value alone
+-- the shift of an operand: `#>` means the value shifted right by 8, and `#^` by 16
 abbrev pub shift_in : OperandKind → Prefix → ℕ
-shift_in Value prefix = value_shift prefix
+shift_in Value Greater = 8
+shift_in Value Caret = 16
 shift_in _ _ = 0
 
 abbrev pub is_long_jump : Mnemonic → Bool
@@ -192,13 +174,9 @@ abbrev pub is_distance : OperandKind → Bool
 is_distance (Distance bytes) = true
 is_distance _ = false
 
--- the opcode, which the mnemonic has in this mode
-abbrev pub opcode_or : Option ℕ → ℕ
-opcode_or None = 0
-opcode_or (Some byte) = byte
-
+-- the opcode of a mnemonic in a mode that it has
 abbrev pub opcode_in : Mnemonic → Mode → ℕ
-opcode_in mnemonic mode = opcode_or (opcode_of mnemonic mode)
+opcode_in mnemonic mode = unwrap_or (opcode_of mnemonic mode) 0
 
 -- all bytes of an instruction whose operand is this number
 abbrev pub with_number : Mnemonic → Mode → Prefix → ℕ → ℕ → List Piece
@@ -217,12 +195,13 @@ with_known widths mnemonic prefix n mode =
     if is_distance (kind_of mode) then with_tree mnemonic mode prefix (operand_bytes widths mnemonic mode) (Leaf (Constant n))
     else with_number mnemonic mode prefix (operand_bytes widths mnemonic mode) n
 
--- an instruction with one formula in one of these modes
+-- An instruction with one formula in one of these modes. A formula that is no constant takes the address of two bytes where
+-- there is one, and else the first mode.
 unfoldable pub with_amount : Widths → Mnemonic → Prefix → Mode → List Mode → Amount → Answer (List Piece)
 with_amount widths mnemonic prefix mode modes (Known n) =
     mode_of_number widths mnemonic prefix n (mode ∷ modes) >>= λ chosen. Ok (with_known widths mnemonic prefix n chosen)
 with_amount widths mnemonic prefix mode modes (Written tree) =
-    let chosen = mode_of_tree mode modes in
+    let chosen = or_first mode (find (λ other. is_address 2 (kind_of other)) (mode ∷ modes)) in
     Ok (with_tree mnemonic chosen prefix (operand_bytes widths mnemonic chosen) tree)
 
 -- without operand all that is after the opcode is 0
@@ -262,11 +241,10 @@ given_by constants widths mnemonic prefix mode modes (tree ∷ []) =
     amount constants tree >>= with_amount widths mnemonic prefix mode modes
 given_by constants widths mnemonic prefix mode modes (source ∷ destination ∷ trees) = block_move_pieces constants mnemonic mode source destination
 
-abbrev pub in_modes : Constants → Widths → Mnemonic → Prefix → List Tree → List Mode → Answer (List Piece)
-in_modes constants widths mnemonic prefix trees [] = Err BadMode
-in_modes constants widths mnemonic prefix trees (mode ∷ modes) = given_by constants widths mnemonic prefix mode modes trees
-
 -- what an instruction with this operand gives
 unfoldable pub instruction : Constants → Widths → Mnemonic → Meaning → Answer (List Piece)
 instruction constants widths mnemonic operand =
-    in_modes constants widths mnemonic operand.prefix operand.trees (modes_of_form mnemonic operand.form operand.prefix)
+    elim (modes_of_form mnemonic operand.form operand.prefix) [
+      | [] ↦ Err BadMode
+      | mode ∷ modes ↦ given_by constants widths mnemonic operand.prefix mode modes operand.trees
+    ]

@@ -126,12 +126,11 @@ state_after_start state line class name load_name = record state {
 }
 
 -- the segment ends, and LENGTH is the number of its cells
-abbrev pub ended_of : Option StartedSegment → List FinishedSegment
-ended_of None = []
-ended_of (Some s) = record { header = record s.header { length = cells_of s }; body = s.body } ∷ []
-
 abbrev pub state_after_end : State → State
-state_after_end state = record state { segment = None; ended = state.ended ++ ended_of state.segment }
+state_after_end state = record state {
+  segment = None;
+  ended = state.ended ++ elim state.segment [ None ↦ [] | Some s ↦ record { header = record s.header { length = cells_of s }; body = s.body } ∷ [] ];
+}
 
 -- ---- statements in a segment
 
@@ -159,13 +158,10 @@ in_segment change state = record state { segment = option_map change state.segme
 
 -- ---- the greatest length
 
-abbrev pub is_too_long : Option StartedSegment → Bool
-is_too_long None = false
-is_too_long (Some s) = nat_lt (greatest_length s.class) (cells_of s)
-
 -- what a statement leaves, unless the segment is too long then
 abbrev pub within_length : State → Answer State
-within_length state = if is_too_long state.segment then Err SegmentTooLong else Ok state
+within_length state =
+    if elim state.segment [ None ↦ false | Some s ↦ nat_lt (greatest_length s.class) (cells_of s) ] then Err SegmentTooLong else Ok state
 
 -- ---- what is turned on and off
 

@@ -14,8 +14,6 @@ use Rattle.orca_meaning.specs.Characters.{folded, is_name}
 use Rattle.orca_meaning.specs.Line.{Line, part}
 use Rattle.macro_meaning.specs.Symbol.{with_name}
 use Rattle.orca_meaning.specs.Operand.{Meaning, IsGoodOperand, IsBadOperand, HasBadNumber}
-use Rattle.asm_meaning.specs.declared.directives.Class.{Class}
-use Rattle.asm_meaning.specs.declared.directives.Switch.{Switch}
 use Rattle.asm_meaning.specs.declared.directives.Directive.TheVariants as directives
 use Rattle.asm_meaning.specs.declared.faults.AsmCause.TheVariants.{UnknownOperation, OutsideSegment, BadLabel, BadOperand, BadNumber, Duplicate, DoesNotFit}
 use Rattle.asm_meaning.specs.Answer.{Answer, pair_or_earlier_fault}
@@ -37,10 +35,6 @@ following_here [] = None
 following_here (byte ∷ []) = None
 following_here (byte ∷ next ∷ following) = if byte == ascii.star && next == ascii.plus then Some following else None
 
-abbrev pub is_some_text : Option (List ℕ) → Bool
-is_some_text None = false
-is_some_text (Some text) = true
-
 abbrev pub is_labelled : List ℕ → Bool
 is_labelled [] = false
 is_labelled (byte ∷ label) = true
@@ -58,7 +52,7 @@ needs_segment (Direct directives.Gequ) label operand = false
 needs_segment (Direct directives.Constants) label operand = true
 needs_segment (Direct directives.Space) label operand = true
 needs_segment (Direct directives.Align) label operand = is_labelled label
-needs_segment (Direct directives.Org) label operand = is_labelled label || is_some_text (following_here operand)
+needs_segment (Direct directives.Org) label operand = is_labelled label || is_some (following_here operand)
 needs_segment (Direct directives.Kind) label operand = true
 needs_segment (Direct (directives.Turn switch)) label operand = is_labelled label
 needs_segment (Direct directives.Nothing) label operand = is_labelled label
@@ -88,14 +82,13 @@ abbrev pub is_taken : State → Option StartedSegment → Operation → List ℕ
 is_taken state None operation label = if begins_segment operation then false else is_some (state.outside label)
 is_taken state (Some s) operation label = is_some (s.names label)
 
-abbrev pub free_label : Bool → List ℕ → Answer (List ℕ)
-free_label taken label = if taken then Err Duplicate else Ok label
-
 -- a label in upper case; nothing is no label
 abbrev pub label_of : State → Operation → List ℕ → Answer (List ℕ)
 label_of state operation [] = if needs_label operation then Err BadLabel else Ok []
 label_of state operation (byte ∷ label) =
-    if is_name (byte ∷ label) then free_label (is_taken state state.segment operation (folded (byte ∷ label))) (folded (byte ∷ label)) else Err BadLabel
+    if is_name (byte ∷ label)
+    then (if is_taken state state.segment operation (folded (byte ∷ label)) then Err Duplicate else Ok (folded (byte ∷ label)))
+    else Err BadLabel
 
 -- ---- operands
 
@@ -127,13 +120,9 @@ abbrev pub value_in : Option (Option ℕ) → Option ℕ
 value_in None = None
 value_in (Some value) = value
 
-abbrev pub constants_in : Option StartedSegment → Constants
-constants_in None name = None
-constants_in (Some s) name = value_in (s.names name)
-
 -- the constants of the segment, and else those from outside
 abbrev pub constants_of : State → Constants
-constants_of state name = option_or (constants_in state.segment name) (state.outside name)
+constants_of state name = option_or (elim state.segment [ None ↦ None | Some s ↦ value_in (s.names name) ]) (state.outside name)
 
 -- the number that a formula is
 abbrev pub number_in : State → Option Tree → Answer ℕ
@@ -141,13 +130,10 @@ number_in state found = formula_of found >>= λ tree. required_number (known_val
 
 -- ---- directives with a number
 
--- a power of two up to $10000, and in a segment up to its alignment
-abbrev pub is_alignment : Option StartedSegment → ℕ → Bool
-is_alignment None n = is_power_of_two n && nat_le n 0x10000
-is_alignment (Some s) n = is_power_of_two n && nat_le n (alignment_of s.header.align)
-
+-- an alignment is a power of two up to $10000, and in a segment up to its alignment
 abbrev pub alignment_in : State → ℕ → Answer ℕ
-alignment_in state n = if is_alignment state.segment n then Ok n else Err BadOperand
+alignment_in state n =
+    if is_power_of_two n && nat_le n (elim state.segment [ None ↦ 0x10000 | Some s ↦ alignment_of s.header.align ]) then Ok n else Err BadOperand
 
 -- in a segment ORG moves the location counter forward
 abbrev pub distance_in : Option StartedSegment → ℕ → Answer ℕ
@@ -177,12 +163,9 @@ abbrev pub equate : Bool → List ℕ → Tree → Record
 equate global label tree = Equate global label 0 DIRECTIVE_LABEL 0 (expression_text tree)
 
 -- a constant is known from the next line on
-abbrev pub value_of : Amount → Option ℕ
-value_of (Known n) = Some n
-value_of (Written tree) = None
-
 abbrev pub with_equate : Bool → List ℕ → Amount → StartedSegment → StartedSegment
-with_equate global label a s = with_records label (value_of a) [] (equate global label (tree_of_amount a) ∷ []) s
+with_equate global label a s =
+    with_records label (elim a [ Known n ↦ Some n | Written tree ↦ None ]) [] (equate global label (tree_of_amount a) ∷ []) s
 
 abbrev pub equating : State → Bool → Answer (List ℕ) → Option Tree → Answer State
 equating state global label found =
@@ -195,91 +178,63 @@ equating_outside state label found =
     pair_or_earlier_fault label (number_in state found)
     >>= λ (name, n). Ok (record state { outside = with_name name n state.outside; front = state.front ++ equate true name (Leaf (Constant n)) ∷ [] })
 
-abbrev pub equating_global : State → Option StartedSegment → Answer (List ℕ) → Option Tree → Answer State
-equating_global state None label found = equating_outside state label found
-equating_global state (Some s) label found = equating state true label found
-
 -- ---- what a directive does, by the formula of its operand
 
-abbrev pub spacing : State → Answer (List ℕ) → Option Tree → Answer State
-spacing state label found =
-    pair_or_earlier_fault label (number_in state found) >>= λ (name, n). Ok (in_segment (with_local_record name DIRECTIVE_LABEL (Space n ∷ [])) state)
-
-abbrev pub align_state : State → Answer (List ℕ) → Option Tree → Answer State
-align_state state label found =
-    pair_or_earlier_fault label (number_in state found >>= alignment_in state) >>= λ (name, n). Ok (state_after_align state state.segment name n)
-
-abbrev pub moving : State → Answer (List ℕ) → Option Tree → Answer State
-moving state label found =
-    pair_or_earlier_fault label (number_in state found >>= distance_in state.segment) >>= λ (name, n). Ok (state_after_org state state.segment name n)
-
-abbrev pub kinding : State → Answer (List ℕ) → Option Tree → Answer State
-kinding state label found =
-    pair_or_earlier_fault label (number_in state found >>= listed_kind)
-    >>= λ (name, n). Ok (in_segment (λ s. with_kind n (with_local_record name DIRECTIVE_LABEL [] s)) state)
-
 -- the formula of ORG: in a segment it is after `*+`
-abbrev pub IsMoveText : Option (List ℕ) → Option Tree → Type 0
-IsMoveText None found = found ≡ None
-IsMoveText (Some text) found = IsFormula text found
-
 abbrev pub IsMove : Option StartedSegment → List ℕ → Option Tree → Type 0
 IsMove None text found = IsFormula text found
-IsMove (Some s) text found = IsMoveText (following_here text) found
+IsMove (Some s) text found = elim (following_here text) [ None ↦ found ≡ None | Some following ↦ IsFormula following found ]
 
 -- ---- what each operation does
 
 abbrev pub marking : State → ℕ → Answer (List ℕ) → Answer (List Record) → Answer State
 marking state form label contents = pair_or_earlier_fault label contents >>= λ (name, found). Ok (in_segment (with_local_record name form found) state)
 
-abbrev pub beginning : State → Line → Class → Answer (List ℕ) → List ℕ → Answer State
-beginning state line class label text =
-    pair_or_earlier_fault label (load_name_of text) >>= λ (name, load_name). Ok (state_after_start state line class name load_name)
-
-abbrev pub turning : State → Switch → Answer (List ℕ) → List ℕ → Answer State
-turning state switch label text =
-    pair_or_earlier_fault label (switch_of text) >>= λ (name, on). Ok (with_switch_set switch on (in_segment (with_local_record name DIRECTIVE_LABEL []) state))
-
--- an ENTRY's label is a GLOBAL of length 0 that isn't private
-abbrev pub entering : State → Answer (List ℕ) → Answer State
-entering state label = label >>= λ name. Ok (in_segment (with_records name None (Label true name 0 DIRECTIVE_LABEL 0 ∷ []) []) state)
-
 -- What a statement leaves, or its first fault, by its operation, its label and the text of its operand.
 unfoldable pub IsDone : State → Line → Operation → Answer (List ℕ) → List ℕ → Answer State → Type 0
 IsDone state line (Instruct mnemonic) label text answer =
     (operand : Answer Meaning) × IsOperandOf mnemonic text operand
     × (answer ≡ marking state INSTRUCTION_LABEL label (operand >>= instruction (constants_of state) state.widths mnemonic >>= λ pieces. Ok (records_of pieces)))
-IsDone state line (Direct (directives.Begin class)) label text answer = answer ≡ beginning state line class label text
+IsDone state line (Direct (directives.Begin class)) label text answer =
+    answer ≡ (pair_or_earlier_fault label (load_name_of text) >>= λ (name, load_name). Ok (state_after_start state line class name load_name))
 IsDone state line (Direct directives.End) label text answer = answer ≡ (marking state DIRECTIVE_LABEL label (Ok (End ∷ [])) >>= λ left. Ok (state_after_end left))
-IsDone state line (Direct directives.Entry) label text answer = answer ≡ entering state label
+IsDone state line (Direct directives.Entry) label text answer =
+    answer ≡ (label >>= λ name. Ok (in_segment (with_records name None (Label true name 0 DIRECTIVE_LABEL 0 ∷ []) []) state))
 IsDone state line (Direct directives.Using) label text answer = answer ≡ marking state DIRECTIVE_LABEL label (name_of text >>= λ name. Ok (Using name ∷ []))
 IsDone state line (Direct directives.Equ) label text answer = (found : Option Tree) × IsFormula text found × (answer ≡ equating state false label found)
 IsDone state line (Direct directives.Gequ) label text answer =
-    (found : Option Tree) × IsFormula text found × (answer ≡ equating_global state state.segment label found)
+    (found : Option Tree) × IsFormula text found × (answer ≡ elim state.segment [ None ↦ equating_outside state label found | Some s ↦ equating state true label found ])
 IsDone state line (Direct directives.Constants) label text answer =
     (found : Option (List Element)) × IsList text found
     × (answer ≡ marking state DIRECTIVE_LABEL label (list_pieces (constants_of state) state.msb found >>= λ pieces. Ok (records_of pieces)))
-IsDone state line (Direct directives.Space) label text answer = (found : Option Tree) × IsFormula text found × (answer ≡ spacing state label found)
-IsDone state line (Direct directives.Align) label text answer = (found : Option Tree) × IsFormula text found × (answer ≡ align_state state label found)
-IsDone state line (Direct directives.Org) label text answer = (found : Option Tree) × IsMove state.segment text found × (answer ≡ moving state label found)
-IsDone state line (Direct directives.Kind) label text answer = (found : Option Tree) × IsFormula text found × (answer ≡ kinding state label found)
-IsDone state line (Direct (directives.Turn switch)) label text answer = answer ≡ turning state switch label text
+IsDone state line (Direct directives.Space) label text answer =
+    (found : Option Tree) × IsFormula text found
+    × (answer ≡ (pair_or_earlier_fault label (number_in state found) >>= λ (name, n). Ok (in_segment (with_local_record name DIRECTIVE_LABEL (Space n ∷ [])) state)))
+IsDone state line (Direct directives.Align) label text answer =
+    (found : Option Tree) × IsFormula text found
+    × (answer ≡ (pair_or_earlier_fault label (number_in state found >>= alignment_in state) >>= λ (name, n). Ok (state_after_align state state.segment name n)))
+IsDone state line (Direct directives.Org) label text answer =
+    (found : Option Tree) × IsMove state.segment text found
+    × (answer ≡ (pair_or_earlier_fault label (number_in state found >>= distance_in state.segment) >>= λ (name, n). Ok (state_after_org state state.segment name n)))
+IsDone state line (Direct directives.Kind) label text answer =
+    (found : Option Tree) × IsFormula text found
+    × (answer ≡ (pair_or_earlier_fault label (number_in state found >>= listed_kind)
+      >>= λ (name, n). Ok (in_segment (λ s. with_kind n (with_local_record name DIRECTIVE_LABEL [] s)) state)))
+IsDone state line (Direct (directives.Turn switch)) label text answer =
+    answer ≡ (pair_or_earlier_fault label (switch_of text) >>= λ (name, on). Ok (with_switch_set switch on (in_segment (with_local_record name DIRECTIVE_LABEL []) state)))
 IsDone state line (Direct directives.Nothing) label text answer = answer ≡ marking state DIRECTIVE_LABEL label (Ok [])
 IsDone state line (Direct directives.Ignored) label text answer = answer ≡ marking state DIRECTIVE_LABEL label (Ok [])
 
 -- ---- lines
 
-abbrev pub IsPlaced : State → Line → Operation → List ℕ → List ℕ → Bool → Answer State → Type 0
-IsPlaced state line operation label text true answer = answer ≡ Err OutsideSegment
-IsPlaced state line operation label text false answer =
-    (left : Answer State) × IsDone state line operation (label_of state operation label) text left × (answer ≡ (left >>= within_length))
-
-abbrev pub IsKnown : State → Line → Option Operation → List ℕ → List ℕ → Answer State → Type 0
-IsKnown state line None label text answer = answer ≡ Err UnknownOperation
-IsKnown state line (Some operation) label text answer =
-    IsPlaced state line operation label text (is_misplaced state.segment operation label text) answer
-
 -- what a line leaves where lines before it left this, or its first fault
 abbrev pub IsStep : State → Line → Answer State → Type 0
-IsStep state line answer =
-    IsKnown state line (operation_of (part line.text line.fields.operation)) (part line.text line.fields.label) (part line.text line.fields.operand) answer
+IsStep state line answer = elim (operation_of (part line.text line.fields.operation)) [
+  | None ↦ answer ≡ Err UnknownOperation
+  | Some operation ↦ elim (is_misplaced state.segment operation (part line.text line.fields.label) (part line.text line.fields.operand)) [
+    | true ↦ answer ≡ Err OutsideSegment
+    | false ↦
+      (left : Answer State) × IsDone state line operation (label_of state operation (part line.text line.fields.label)) (part line.text line.fields.operand) left
+      × (answer ≡ (left >>= within_length))
+  ]
+]

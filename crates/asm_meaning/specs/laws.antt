@@ -1,3 +1,4 @@
+pub mod Steps
 pub mod StatementLaws
 pub mod AmountLaws
 pub mod PieceLaws

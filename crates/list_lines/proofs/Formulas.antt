@@ -5,7 +5,8 @@ use Rattle.std.proofs.lemmas.Bool.{lt-leb}
 use Rattle.std.proofs.lemmas.List.{length-take}
 use Rattle.omf_base.specs.Digits.{hexadecimal}
 use Rattle.omf_format.specs.Expression.{Tree}
-use Rattle.list_meaning.specs.Listed.{FormulaIs, Wanted, None', Number, Banks, Label, Moved, said_text, with_leading_space, formula_text, number_text, sign_text, wanted_text}
+use Rattle.list_meaning.specs.Listed.{FormulaIs, Wanted, None', Number, Banks, Label, Moved, said_text, formula_text, number_text, wanted_text}
+use Rattle.list_meaning.specs.laws.Steps.{sign_text, with_leading_space}
 use Rattle.list_meaning.specs.Listing.{is_short}
 use Rattle.list_lines.specs.declared.output.ListingText.{ListingText}
 use Rattle.list_lines.specs.Kept.{with_line}

@@ -4,7 +4,7 @@ ghost use Rattle.std.specs.Prelude.{◌≡◌, ◌++◌, ◌∷◌, ◌≤◌, �
 ghost use Rattle.omf_format.specs.Expression.{Term, Tree, Leaf, Spells, IsExpression, Operator, terms_in, operands_of, operand_count};
 ghost use Rattle.omf_expr.specs.View.{view};
 ghost use Rattle.object_meaning.specs.Terms.{tree_in, with_term};
-ghost use Rattle.list_meaning.specs.Listed.{operator_text, formula_text, term_text};
+ghost use Rattle.list_meaning.specs.Listed.{operator_text, formula_text};
 ghost use Rattle.list_meaning.specs.Listing.{is_open, term_listable, term_may_stand};
 ghost use Rattle.list_lines.specs.FormulaView.{all_terms, any_term, term_at, moved_by, simple_four, weak_two, number_two, IsFront, parenthesized, part_view, part_of_tree, all_reported};
 ghost use Rattle.list_lines.specs.LineView.{HasSize, operand_view};

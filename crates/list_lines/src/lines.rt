@@ -3,7 +3,8 @@
 ghost use Rattle.std.specs.Prelude.{◌≡◌, ◌++◌, ◌∷◌, ◌≤◌, ◌<◌, ◌*◌, [], codes, false, length, take, OnOk, IsErrOf, if◌then◌else◌};
 ghost use Rattle.omf_base.specs.Digits.{hexadecimal};
 ghost use Rattle.omf_format.specs.Expression.{Tree};
-ghost use Rattle.list_meaning.specs.Listed.{NextAlignIs, NextOrg, StartIs, KindIs, SwitchIs, Ds, Aligns, OrgIs, UsingIs, StrongIs, Labels, Equates, Instructs, Bytes, WeakIs, FormulaIs, EndIs, with_leading_space, number_text, wanted_text, operand_text, formula_text, switch_text, on_text};
+ghost use Rattle.list_meaning.specs.Listed.{NextAlignIs, NextOrg, StartIs, KindIs, SwitchIs, Ds, Aligns, OrgIs, UsingIs, StrongIs, Labels, Equates, Instructs, Bytes, WeakIs, FormulaIs, EndIs, number_text, wanted_text, formula_text, switch_text};
+ghost use Rattle.list_meaning.specs.laws.Steps.{operand_text, on_text, with_leading_space};
 ghost use Rattle.list_meaning.specs.Listing.{is_short};
 ghost use Rattle.list_lines.specs.LineView.{Wrote, HasSize, has_no_text, operand_view};
 ghost use Rattle.list_lines.specs.OutputView.{finished_lines, open_line};

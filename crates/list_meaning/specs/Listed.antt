@@ -1,8 +1,8 @@
 -- The lines of a listing: how each is written, and what it represents.
-use Rattle.std.specs.Prelude.{ℕ, ◌*◌, ◌==◌, Bool, true, false, List, [], ◌∷◌, ◌++◌, codes, Option, Some, None, if◌then◌else◌}
+use Rattle.std.specs.Prelude.{ℕ, ◌*◌, ◌==◌, Bool, List, [], ◌∷◌, ◌++◌, codes, Some, None, if◌then◌else◌}
 use Rattle.std.specs.List.{flat_map, find}
 use Rattle.omf_format.specs.Ascii as ascii
-use Rattle.omf_format.specs.Expression.{Tree, Leaf, Unary, Binary, Term, Operator, Location, Constant, Named, Offset}
+use Rattle.omf_format.specs.Expression.{Tree, Leaf, Unary, Binary, Location, Constant, Named}
 use Rattle.omf_base.specs.Digits.{hexadecimal}
 use Rattle.orca_meaning.specs.declared.mnemonics.Mnemonic.{Mnemonic}
 use Rattle.orca_meaning.specs.declared.modes.Mode.{Mode}
@@ -51,27 +51,17 @@ pub data ListedStatement : Type 0 where
 
 -- ---- how it is written
 
--- a text with a space before it, unless it is empty
-abbrev pub with_leading_space : List ℕ → List ℕ
-with_leading_space [] = []
-with_leading_space (byte ∷ text) = ascii.space ∷ byte ∷ text
-
--- a label or none, an operation and an operand or none
+-- a label or none, an operation, and an operand with a space before it, or none
 abbrev pub statement_text : List ℕ → List ℕ → List ℕ → List ℕ
-statement_text label operation operand = label ++ (ascii.space ∷ (operation ++ with_leading_space operand))
+statement_text label operation operand = label ++ (ascii.space ∷ (operation ++ elim operand [ [] ↦ [] | byte ∷ text ↦ ascii.space ∷ byte ∷ text ]))
 
 -- a number as it is written: `$`, and a given number of digits
 abbrev pub number_text : ℕ → ℕ → List ℕ
 number_text places n = ascii.dollar ∷ hexadecimal places n
 
--- the first spelling of a mnemonic
-abbrev pub second_or : Option (List ℕ × Mnemonic) → List ℕ
-second_or None = []
-second_or (Some row) = row.0
-
 -- the spelling of a mnemonic in upper case
 unfoldable pub spelling_of : Mnemonic → List ℕ
-spelling_of mnemonic = second_or (find (λ row. sameb mnemonic_type.the_type row.1 mnemonic) mnemonics)
+spelling_of mnemonic = elim (find (λ row. sameb mnemonic_type.the_type row.1 mnemonic) mnemonics) [ Some row ↦ row.0 | None ↦ [] ]
 
 -- the text before and after the formula in a mode
 unfoldable pub shape_of : Mode → List ℕ × List ℕ
@@ -101,22 +91,13 @@ shape_of Relative16 = ([], [])
 shape_of Move = ([], [])
 shape_of Signature = ([], [])
 
--- the sign between a name and the number after it
-abbrev pub sign_text : Bool → List ℕ
-sign_text true = codes "+"
-sign_text false = codes "-"
-
 -- a constant has two digits a byte, and other numbers have eight
 abbrev pub wanted_text : Wanted → List ℕ
 wanted_text None' = []
 wanted_text (Number bytes n) = number_text (2 * bytes) n
 wanted_text (Banks source destination) = number_text 2 source ++ (codes "," ++ number_text 2 destination)
 wanted_text (Label name) = name
-wanted_text (Moved name adds n) = name ++ (sign_text adds ++ number_text 8 n)
-
--- an operand in its mode
-abbrev pub operand_text : Mode → Wanted → List ℕ
-operand_text mode wanted = (shape_of mode).0 ++ (wanted_text wanted ++ (shape_of mode).1)
+wanted_text (Moved name adds n) = name ++ ((if adds then codes "+" else codes "-") ++ number_text 8 n)
 
 -- the operators that a formula may have
 unfoldable pub operator_text : ℕ → List ℕ
@@ -128,30 +109,17 @@ operator_text code =
     else if code == 0x0E then codes "<>" else if code == 0x0F then codes "<" else if code == 0x10 then codes ">"
     else if code == 0x11 then codes "=" else []
 
--- a term of a formula; a listing has no other ones
-abbrev pub term_text : Term → List ℕ
-term_text (Operator code) = []
-term_text Location = codes "*"
-term_text (Constant n) = number_text 8 n
-term_text (Named code name) = name
-term_text (Offset n) = []
-
 -- a formula; as an operand it is in parentheses unless it is a name, a number or `*`
 abbrev pub as_operand : Tree → List ℕ → List ℕ
 as_operand (Leaf term) text = text
 as_operand (Unary code a) text = codes "(" ++ (text ++ codes ")")
 as_operand (Binary code a b) text = codes "(" ++ (text ++ codes ")")
 
--- the formula of an expression
+-- the formula of an expression; a listing has no terms but these
 abbrev pub formula_text : Tree → List ℕ
-formula_text (Leaf term) = term_text term
+formula_text (Leaf term) = elim term [ Location ↦ codes "*" | Constant n ↦ number_text 8 n | Named code name ↦ name | _ ↦ [] ]
 formula_text (Unary code a) = operator_text code ++ as_operand a (formula_text a)
 formula_text (Binary code a b) = as_operand a (formula_text a) ++ (operator_text code ++ as_operand b (formula_text b))
-
--- what a width is turned to
-abbrev pub on_text : Bool → List ℕ
-on_text true = codes "ON"
-on_text false = codes "OFF"
 
 -- what is turned on or off
 abbrev pub switch_text : Switch → List ℕ
@@ -169,7 +137,7 @@ said_text (NextAlignIs n) = statement_text [] (codes "ALIGN") (number_text 8 n)
 said_text (NextOrg n) = statement_text [] (codes "ORG") (number_text 8 n)
 said_text (StartIs crosses name load_name) = statement_text name (if crosses then codes "DATA" else codes "START") load_name
 said_text (KindIs n) = statement_text [] (codes "KIND") (number_text 4 n)
-said_text (SwitchIs switch on) = statement_text [] (switch_text switch) (on_text on)
+said_text (SwitchIs switch on) = statement_text [] (switch_text switch) (if on then codes "ON" else codes "OFF")
 said_text (Ds n) = statement_text [] (codes "DS") (number_text 8 n)
 said_text (Aligns n) = statement_text [] (codes "ALIGN") (number_text 8 n)
 said_text (OrgIs n) = statement_text [] (codes "ORG") (codes "*+" ++ number_text 8 n)
@@ -177,16 +145,13 @@ said_text (UsingIs name) = statement_text [] (codes "USING") name
 said_text (StrongIs name) = statement_text [] (codes "DC") (quoted_value (codes "R") name)
 said_text (Labels global name) = statement_text name (if global then codes "ENTRY" else codes "ANOP") []
 said_text (Equates global name n) = statement_text name (if global then codes "GEQU" else codes "EQU") (number_text 8 n)
-said_text (Instructs mnemonic mode operand) = statement_text [] (spelling_of mnemonic) (operand_text mode operand)
+said_text (Instructs mnemonic mode operand) =
+    statement_text [] (spelling_of mnemonic) ((shape_of mode).0 ++ (wanted_text operand ++ (shape_of mode).1))
 said_text (Bytes bytes) = statement_text [] (codes "DC") (quoted_value (codes "H") (flat_map (hexadecimal 2) bytes))
 said_text (WeakIs name) = statement_text [] (codes "DC") (quoted_value (codes "S") name)
 said_text (FormulaIs count tree) = statement_text [] (codes "DC") (quoted_value (codes "A" ++ hexadecimal 1 count) (formula_text tree))
 said_text EndIs = statement_text [] (codes "END") []
 
--- the text: a line each, with LF
-abbrev pub line_text : ListedStatement → List ℕ
-line_text said = said_text said ++ ascii.line_feed ∷ []
-
--- the lines one after another
+-- the lines one after another, each with LF
 unfoldable pub listing_text : List ListedStatement → List ℕ
-listing_text all = flat_map line_text all
+listing_text all = flat_map (λ said. said_text said ++ ascii.line_feed ∷ []) all

@@ -1,5 +1,5 @@
 -- Which segments can be listed, and their lines.
-use Rattle.std.specs.Prelude.{ℕ, zero, suc, ◌+◌, ◌==◌, Bool, true, false, not, ◌&&◌, ◌||◌, nat_le, bit_and, List, [], ◌∷◌, ◌++◌, length, take, drop, bytes_eq, slice_get, Option, Some, None, Result, Ok, Err, if◌then◌else◌}
+use Rattle.std.specs.Prelude.{ℕ, zero, suc, ◌+◌, ◌==◌, Bool, true, false, not, ◌&&◌, ◌||◌, nat_le, bit_and, List, [], ◌∷◌, ◌++◌, length, take, drop, bytes_eq, slice_get, Option, Some, None, Result, Ok, Err, if◌then◌else◌, is_some, option_and_then, ok_or}
 use Rattle.std.specs.Int.{is_power_of_two}
 use Rattle.std.specs.List.{list_all, list_any, position_or_len, flat_map}
 use Rattle.byteorder.specs.Endian.{little_number}
@@ -14,7 +14,6 @@ use Rattle.object_meaning.specs.Sizes.{records_with_offsets, body_size}
 use Rattle.object_meaning.specs.Terms.{tree_in}
 use Rattle.orca_meaning.specs.declared.mnemonics.Mnemonic.{Mnemonic}
 use Rattle.orca_meaning.specs.declared.mnemonics.Mnemonic.TheVariants.{Brk, Rep, Sep}
-use Rattle.orca_meaning.specs.declared.modes.Mode.{Mode}
 use Rattle.orca_meaning.specs.declared.modes.Mode.TheVariants.{Signature}
 use Rattle.orca_meaning.specs.Characters.{is_name, folded}
 use Rattle.orca_meaning.specs.Matrix.{matrix, Instruction}
@@ -33,40 +32,29 @@ is_listable name = is_name name && bytes_eq (folded name) name
 abbrev pub without_padding : List ℕ → List ℕ
 without_padding text = take (position_or_len (λ byte. byte == ascii.space) text) text
 
--- after the first space all are spaces
-abbrev pub is_padded : List ℕ → Bool
-is_padded text = list_all (λ byte. byte == ascii.space) (drop (position_or_len (λ byte. byte == ascii.space) text) text)
-
 -- ---- the lines before a segment's records
-
--- code, data, initialization, and direct page and stack
-abbrev pub is_listed_form : ℕ → Bool
-is_listed_form form = list_any (λ t. t == form) (0x00 ∷ 0x01 ∷ 0x10 ∷ 0x12 ∷ [])
 
 -- LOADNAME is spaces, or a name that can be written unchanged with spaces after it
 abbrev pub is_listable_load_name : List ℕ → Bool
-is_listable_load_name text = is_padded text && (bytes_eq (without_padding text) [] || is_listable (without_padding text))
-
--- the greatest LENGTH, where the segment may cross banks and where it may not
-abbrev pub greatest_length : ℕ → ℕ
-greatest_length bank_size = if bank_size == 0 then 0xFFFFFF else 0x10000
+is_listable_load_name text =
+    list_all (λ byte. byte == ascii.space) (drop (position_or_len (λ byte. byte == ascii.space) text) text)
+    && (bytes_eq (without_padding text) [] || is_listable (without_padding text))
 
 -- an ALIGN of 0 away from place 0: no number of zeros meets it
 abbrev pub is_lost : ℕ → Record → Bool
 is_lost at (Align n) = n == 0 && not (at == 0)
 is_lost at _ = false
 
--- an ALIGN of 0 is at another place than 0
-abbrev pub has_lost_place : Segment → Bool
-has_lost_place s = list_any (λ l. is_lost l.location l.content) (records_with_offsets s)
-
--- the header can be listed: its type, its names, BANKSIZE, ALIGN and ENTRY, and LENGTH is the number of cells
+-- The header can be listed: its type is code, data, initialization, or direct page and stack; its names, BANKSIZE, ALIGN and
+-- ENTRY; no ALIGN of 0 is at another place than 0; and LENGTH is the number of cells, with a bound where the segment may cross
+-- banks and another where it may not.
 abbrev pub has_listable_header : Segment → Bool
 has_listable_header s =
-    is_listed_form (form_of s.fields.kind) && is_listable s.fields.name && is_listable_load_name s.fields.load_name
+    list_any (λ t. t == form_of s.fields.kind) (0x00 ∷ 0x01 ∷ 0x10 ∷ 0x12 ∷ []) && is_listable s.fields.name && is_listable_load_name s.fields.load_name
     && (s.fields.bank_size == 0 || s.fields.bank_size == 0x10000)
     && (s.fields.align == 0 || (is_power_of_two s.fields.align && nat_le s.fields.align 0x10000)) && s.fields.entry == 0
-    && not (has_lost_place s) && s.fields.length == body_size s + s.fields.res_spc && nat_le s.fields.length (greatest_length s.fields.bank_size)
+    && not (list_any (λ l. is_lost l.location l.content) (records_with_offsets s)) && s.fields.length == body_size s + s.fields.res_spc
+    && nat_le s.fields.length (if s.fields.bank_size == 0 then 0xFFFFFF else 0x10000)
 
 -- a line with a number that isn't 0
 abbrev pub unless_zero : (ℕ → ListedStatement) → ℕ → List ListedStatement
@@ -81,25 +69,19 @@ front_of f =
 -- ---- instructions in a run
 
 -- the instruction of an opcode
-abbrev pub or_brk : Option Instruction → Instruction
-or_brk None = (Brk, Signature)
-or_brk (Some i) = i
-
--- the instruction of an opcode
 abbrev pub instruction_of_opcode : ℕ → Instruction
-instruction_of_opcode opcode = or_brk (slice_get matrix opcode)
+instruction_of_opcode opcode = elim (slice_get matrix opcode) [ Some found ↦ found | None ↦ (Brk, Signature) ]
 
 -- how many bytes are after an opcode
 abbrev pub after_opcode : Widths → ℕ → ℕ
 after_opcode w opcode = operand_bytes w (instruction_of_opcode opcode).0 (instruction_of_opcode opcode).1
 
--- a bit of the operand of REP or SEP sets a width
-abbrev pub width_by : Bool → ℕ → ℕ → Bool → Bool
-width_by on bit operand old = if bit_and operand bit == 0 then old else on
-
 -- REP turns the widths on whose bits are set, and SEP turns them off
 abbrev pub widths_by : Bool → ℕ → Widths → Widths
-widths_by on operand w = record { long_a = width_by on 0x20 operand w.long_a; long_i = width_by on 0x10 operand w.long_i }
+widths_by on operand w = record {
+  long_a = if bit_and operand 0x20 == 0 then w.long_a else on;
+  long_i = if bit_and operand 0x10 == 0 then w.long_i else on;
+}
 
 -- the widths after an instruction with constant bytes
 unfoldable pub widths_following : Mnemonic → List ℕ → Widths → Widths
@@ -126,17 +108,14 @@ operand_by (Distance n) bytes = None
 operand_by Banks bytes = Some (listed.Banks (little_number 1 (drop 1 bytes)) (little_number 1 bytes))
 operand_by Sign bytes = Some (Number (length bytes) (little_number (length bytes) bytes))
 
--- an instruction with its operand, or its bytes where it has none that is written
-abbrev pub written_or : Mnemonic → Mode → List ℕ → Option Wanted → List ListedStatement
-written_or mnemonic way bytes None = Bytes bytes ∷ []
-written_or mnemonic way bytes (Some wanted) = Instructs mnemonic way wanted ∷ []
-
 -- an instruction with the bytes after its opcode; at the end there may be fewer than it should have
 unfoldable pub said_instruction : Widths → ℕ → List ℕ → List ListedStatement
 said_instruction w opcode bytes =
     let found = instruction_of_opcode opcode in
     if length bytes == after_opcode w opcode
-    then written_or found.0 found.1 (opcode ∷ bytes) (operand_by (kind_of found.1) bytes) ++ turns_between w (widths_following found.0 bytes w)
+    then
+      elim (operand_by (kind_of found.1) bytes) [ None ↦ Bytes (opcode ∷ bytes) ∷ [] | Some wanted ↦ Instructs found.0 found.1 wanted ∷ [] ]
+      ++ turns_between w (widths_following found.0 bytes w)
     else Bytes (opcode ∷ bytes) ∷ []
 
 -- the widths after it
@@ -220,35 +199,23 @@ with_name name given = (given.0, record { widths = given.1.widths; run = given.1
 abbrev pub is_among : List (List ℕ) → List ℕ → Bool
 is_among names name = list_any (bytes_eq name) names
 
--- the last byte of a run, and those before it
-abbrev pub after_byte : ℕ → Option (List ℕ × ℕ) → Option (List ℕ × ℕ)
-after_byte byte None = Some ([], byte)
-after_byte byte (Some found) = Some (byte ∷ found.0, found.1)
-
 -- a run without its last byte, and that byte
 unfoldable pub split_last : List ℕ → Option (List ℕ × ℕ)
 split_last [] = None
-split_last (byte ∷ following) = after_byte byte (split_last following)
-
--- the opcode is held back: the run without it, and one instruction
-abbrev pub held_back : PendingRun → List ℕ → ℕ → Wanted → Given
-held_back b rest opcode wanted =
-    let given = with_run_written (record b { run = rest }) in
-    then_said (Instructs (instruction_of_opcode opcode).0 (instruction_of_opcode opcode).1 wanted ∷ []) given
+split_last (byte ∷ following) = elim (split_last following) [ None ↦ Some ([], byte) | Some found ↦ Some (byte ∷ found.0, found.1) ]
 
 -- a DC for an EXPR that isn't part of an instruction
 abbrev pub dc_of_formula : ℕ → Tree → Option (List ℕ) → ListedStatement
 dc_of_formula count tree None = FormulaIs count tree
 dc_of_formula count tree (Some name) = WeakIs name
 
--- the last byte is an opcode that has this record, at the widths after the run without it
-abbrev pub is_held : PendingRun → ℕ → ℕ → ℕ → List ℕ × ℕ → Bool
-is_held b code count n found = is_record code count n (record_of_opcode (widths_rest b.widths 0 found.0) found.1)
-
--- the lines of an expression record: an instruction with the byte that is held back, or a DC
+-- The lines of an expression record: an instruction with the byte before it, where that is an opcode that has this record at the
+-- widths after the run without it; or a DC.
 unfoldable pub formula_given : PendingRun → ℕ → ℕ → ℕ → Tree → Option (List ℕ × ℕ) → Option Wanted → Given
 formula_given b code count n tree (Some found) (Some wanted) =
-    if is_held b code count n found then held_back b found.0 found.1 wanted else then_said (dc_of_formula count tree (weak_of tree) ∷ []) (with_run_written b)
+    if is_record code count n (record_of_opcode (widths_rest b.widths 0 found.0) found.1)
+    then then_said (Instructs (instruction_of_opcode found.1).0 (instruction_of_opcode found.1).1 wanted ∷ []) (with_run_written (record b { run = found.0 }))
+    else then_said (dc_of_formula count tree (weak_of tree) ∷ []) (with_run_written b)
 formula_given b code count n tree (Some found) None = then_said (dc_of_formula count tree (weak_of tree) ∷ []) (with_run_written b)
 formula_given b code count n tree None wanted = then_said (dc_of_formula count tree (weak_of tree) ∷ []) (with_run_written b)
 
@@ -278,48 +245,26 @@ is_open (Constant n) = false
 is_open (Named code name) = code == 0x83
 is_open (Offset n) = false
 
--- there is a name
-abbrev pub is_some_name : Option (List ℕ) → Bool
-is_some_name None = false
-is_some_name (Some name) = true
-
--- there is an operand
-abbrev pub is_some_wanted : Option Wanted → Bool
-is_some_wanted None = false
-is_some_wanted (Some wanted) = true
-
--- an EXPR is one weak name with count 2, or a formula that contains a name or the location counter
-abbrev pub expr_listable : ℕ → Tree → Bool
-expr_listable count tree =
-    if is_some_name (weak_of tree) then count == 2
-    else list_all term_may_stand (terms_of tree) && list_any is_open (terms_of tree)
-
 -- whatever the widths are: only EXPR follows on them
 abbrev pub both_long : Widths
 both_long = record { long_a = true; long_i = true }
 
--- the record follows directly on an opcode that has it
-abbrev pub follows_opcode : ℕ → ℕ → ℕ → Option (List ℕ × ℕ) → Bool
-follows_opcode code count n None = false
-follows_opcode code count n (Some found) = is_record code count n (record_of_opcode both_long found.1)
-
--- an expression record can be listed
+-- An expression record can be listed: an EXPR is one weak name with count 2, or a formula that contains a name or the location
+-- counter, and any other record follows directly on an opcode that has it.
 unfoldable pub formula_listable : List (List ℕ) → PendingRun → ℕ → ℕ → ℕ → Tree → Bool
 formula_listable equates b code count n tree =
     list_all (term_listable equates) (terms_of tree)
-    && (if code == EXPR then expr_listable count tree else is_some_wanted (simple_of tree) && follows_opcode code count n (split_last b.run))
+    && (if code == EXPR
+      then (if is_some (weak_of tree) then count == 2 else list_all term_may_stand (terms_of tree) && list_any is_open (terms_of tree))
+      else is_some (simple_of tree) && elim (split_last b.run) [ None ↦ false | Some found ↦ is_record code count n (record_of_opcode both_long found.1) ])
 
 -- the line fits in 255 bytes
 abbrev pub is_short : ListedStatement → Bool
 is_short said = nat_le (length (said_text said)) 255
 
--- all lines fit in 255 bytes
-abbrev pub are_short : Given → Bool
-are_short given = list_all is_short given.0
-
 -- the lines, where a test holds and they fit
 abbrev pub if_short : Bool → Given → Option Given
-if_short holds given = if holds && are_short given then Some given else None
+if_short holds given = if holds && list_all is_short given.0 then Some given else None
 
 -- the number where the expression is one
 abbrev pub number_of : Tree → Option ℕ
@@ -330,11 +275,6 @@ number_of _ = None
 abbrev pub equate_given : PendingRun → Bool → List ℕ → Option ℕ → Option Given
 equate_given b global name None = None
 equate_given b global name (Some n) = if_short (is_listable name && not (is_among b.names name)) (with_name name (then_said (Equates global name n ∷ []) (with_run_written b)))
-
--- what is said of an expression's tree
-abbrev pub on_tree : {A : Type 0} → Option Tree → (Tree → Option A) → Option A
-on_tree None f = None
-on_tree (Some tree) f = f tree
 
 -- the lines of a record where it can be listed, and what it leaves; what is before ALIGN is in the header
 unfoldable pub given_by : HeaderFields → List (List ℕ) → PendingRun → Record → Option Given
@@ -349,9 +289,11 @@ given_by f equates b (Strong name) = if_short (is_listable name) (then_said (Str
 given_by f equates b (Label global name size form private) =
     if_short ((not global || private == 0) && is_listable name && not (is_among b.names name)) (with_name name (then_said (Labels global name ∷ []) (with_run_written b)))
 given_by f equates b (Equate global name size form private expr) =
-    if not global || private == 0 then on_tree (tree_in f.lab_len expr) (λ tree. equate_given b global name (number_of tree)) else None
+    if not global || private == 0 then option_and_then (λ tree. equate_given b global name (number_of tree)) (tree_in f.lab_len expr) else None
 given_by f equates b (Formula code count n expr) =
-    on_tree (tree_in f.lab_len expr) (λ tree. if_short (formula_listable equates b code count n tree) (formula_given b code count n tree (split_last b.run) (simple_of tree)))
+    option_and_then
+      (λ tree. if_short (formula_listable equates b code count n tree) (formula_given b code count n tree (split_last b.run) (simple_of tree)))
+      (tree_in f.lab_len expr)
 given_by f equates b _ = None
 
 -- ---- a segment
@@ -361,30 +303,20 @@ abbrev pub equate_name : Record → List (List ℕ)
 equate_name (Equate global name size form private expr) = name ∷ []
 equate_name _ = []
 
--- the names of a segment's equates
-abbrev pub equates_of : Segment → List (List ℕ)
-equates_of s = flat_map (λ found. equate_name found.1) s.records
-
--- a record without lines can't be listed, at its place
-abbrev pub or_record : {A : Type 0} → ℕ → Option A → Result A ℕ
-or_record at None = Err at
-or_record at (Some a) = Ok a
-
 -- the lines of records after these lines, or the place of the first that can't be listed
 unfoldable pub said_from : HeaderFields → List (List ℕ) → PendingRun → List (ℕ × Record) → Result (List ListedStatement) ℕ
 said_from f equates b [] = Ok []
 said_from f equates b (found ∷ founds) =
-    or_record found.0 (given_by f equates b found.1) >>= λ given. said_from f equates given.1 founds >>= λ more. Ok (given.0 ++ more)
+    ok_or (given_by f equates b found.1) found.0 >>= λ given. said_from f equates given.1 founds >>= λ more. Ok (given.0 ++ more)
 
--- before the first record: both registers have 16 bits, and SEGNAME is defined
-abbrev pub at_front : HeaderFields → PendingRun
-at_front f = record { widths = both_long; run = []; names = f.name ∷ [] }
-
--- the lines of a segment, or the place where it can't be listed: its start, or a record
+-- The lines of a segment, or the place where it can't be listed: its start, or a record. Before the first record both registers
+-- have 16 bits, and SEGNAME is defined.
 unfoldable pub listing_of : Segment → Result (List ListedStatement) ℕ
 listing_of s =
     if has_listable_header s && list_all is_short (front_of s.fields)
-    then (said_from s.fields (equates_of s) (at_front s.fields) s.records >>= λ more. Ok (front_of s.fields ++ more))
+    then
+      (said_from s.fields (flat_map (λ found. equate_name found.1) s.records) (record { widths = both_long; run = []; names = s.fields.name ∷ [] }) s.records
+      >>= λ more. Ok (front_of s.fields ++ more))
     else Err s.start
 
 -- ---- a file

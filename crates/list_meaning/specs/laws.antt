@@ -1,3 +1,4 @@
+pub mod Steps
 pub mod LineText
 pub mod Expands
 pub mod Numbers

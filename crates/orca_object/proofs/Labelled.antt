@@ -5,7 +5,8 @@ use Rattle.asm_meaning.specs.declared.directives.Operation.{Operation}
 use Rattle.asm_meaning.specs.declared.faults.AsmCause.TheVariants.{BadLabel, Duplicate}
 use Rattle.asm_meaning.specs.Answer.{Answer}
 use Rattle.asm_meaning.specs.State.{State}
-use Rattle.asm_meaning.specs.Statement.{label_of, free_label, is_taken, needs_label}
+use Rattle.asm_meaning.specs.Statement.{label_of, is_taken, needs_label}
+use Rattle.asm_meaning.specs.laws.Steps.{free_label}
 use Rattle.orca_operands.specs.OperandView as view
 use Rattle.orca_object.specs.DoneView.{IsSome}
 use Rattle.orca_operands.proofs.ByFormulas.{empty_list}

@@ -14,7 +14,8 @@ use Rattle.asm_meaning.specs.Constant.{Constants}
 use Rattle.asm_meaning.specs.State.{State, in_segment, state_after_start, within_length}
 use Rattle.orca_meaning.specs.Characters.{is_name, folded}
 use Rattle.asm_meaning.specs.laws.InstructionLaws.{both_ok}
-use Rattle.asm_meaning.specs.Statement.{IsDone, constants_of, marking, entering, turning, beginning, with_equate, name_of, load_name_of}
+use Rattle.asm_meaning.specs.Statement.{IsDone, constants_of, marking, with_equate, name_of, load_name_of}
+use Rattle.asm_meaning.specs.laws.Steps.{entering, turning, beginning}
 use Rattle.orca_operands.specs.declared.amount.Amount.{Amount}
 use Rattle.orca_object.specs.declared.state.AsmState.{AsmState}
 use Rattle.orca_operands.specs.AmountView.{AmountBytes as Amount_kept, kept_view, kept_of, kept_answer, amount_view}

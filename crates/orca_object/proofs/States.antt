@@ -9,7 +9,8 @@ use Rattle.asm_meaning.specs.declared.directives.Class.{Class}
 use Rattle.asm_meaning.specs.Formulas.{expression_text}
 use Rattle.asm_meaning.specs.Object.{records_text, object_text}
 use Rattle.asm_meaning.specs.Pieces.{place_after}
-use Rattle.asm_meaning.specs.State.{StartedSegment, FinishedSegment, State, start, no_constants, kind_of, bank_size_of, header_of, state_after_end, ended_of, cells_of, in_segment}
+use Rattle.asm_meaning.specs.State.{StartedSegment, FinishedSegment, State, start, no_constants, kind_of, bank_size_of, header_of, state_after_end, cells_of, in_segment}
+use Rattle.asm_meaning.specs.laws.Steps.{ended_of}
 use Rattle.std.specs.Option.{option_map}
 use Rattle.std.proofs.lemmas.List.{length-append}
 use Rattle.asm_meaning.specs.Statement.{equate}

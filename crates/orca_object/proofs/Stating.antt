@@ -22,7 +22,8 @@ use Rattle.asm_meaning.specs.declared.faults.AsmCause.{AsmCause}
 use Rattle.asm_meaning.specs.declared.faults.AsmCause.TheVariants.{BadOperand, BadNumber}
 use Rattle.asm_meaning.specs.Answer.{Answer}
 use Rattle.asm_meaning.specs.Constant.{Constants}
-use Rattle.asm_meaning.specs.Elements.{Element, IsElementAt, AreElements, joined_pieces, element_pieces}
+use Rattle.asm_meaning.specs.Elements.{Element, IsElementAt, AreElements, element_pieces}
+use Rattle.asm_meaning.specs.laws.Steps.{joined_pieces}
 use Rattle.asm_meaning.specs.laws.GivenLaws.{fine_operand}
 use Rattle.asm_meaning.specs.Instruction.{Widths, instruction}
 use Rattle.asm_meaning.specs.laws.InstructionLaws.{AreFineTrees}

@@ -14,7 +14,8 @@ use Rattle.asm_meaning.specs.declared.faults.AsmCause.{AsmCause}
 use Rattle.asm_meaning.specs.Answer.{Answer}
 use Rattle.asm_meaning.specs.Operations.{operation_of, directives}
 use Rattle.asm_meaning.specs.State.{State, StartedSegment}
-use Rattle.asm_meaning.specs.Statement.{IsDone, IsKnown, IsPlaced, IsStep, label_of, is_misplaced, equating, equating_global}
+use Rattle.asm_meaning.specs.Statement.{IsDone, IsStep, label_of, is_misplaced, equating}
+use Rattle.asm_meaning.specs.laws.Steps.{IsKnown, IsPlaced, equating_global}
 use Rattle.orca_object.specs.declared.state.AsmState.{AsmState}
 use Rattle.orca_object.specs.DoingView.{IsEquated, IsConstant}
 use Rattle.orca_object.specs.StateView.{Leaves, IsLeft}

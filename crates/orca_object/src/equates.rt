@@ -5,7 +5,7 @@ ghost use Rattle.omf_format.specs.Expression.{IsExpression};
 ghost use Rattle.asm_meaning.specs.Constant as meaning;
 ghost use Rattle.asm_meaning.specs.Constant.{tree_of_amount};
 ghost use Rattle.asm_meaning.specs.Formulas.{expression_text};
-ghost use Rattle.asm_meaning.specs.Statement.{value_of};
+ghost use Rattle.asm_meaning.specs.laws.Steps.{value_of};
 ghost use Rattle.orca_operands.specs.AmountView.{kept_view, kept_of};
 ghost use Rattle.orca_operands.specs.FineView.{IsFineAmount};
 ghost use Rattle.orca_meaning.specs.Line.{Line};

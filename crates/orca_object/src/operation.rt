@@ -1,12 +1,12 @@
 //! What a line's operation is, where it may be, and its label (ORCA/M reference manual, "Assembler directives", "The label
 //! field").
 
-ghost use Rattle.std.specs.Prelude.{◌≡◌, bytes_eq, IfOk, true};
+ghost use Rattle.std.specs.Prelude.{◌≡◌, bytes_eq, is_some, IfOk, true};
 ghost use Rattle.orca_meaning.specs.Characters.{folded};
 ghost use Rattle.orca_meaning.specs.Operation.{value_of_spelling};
 ghost use Rattle.asm_meaning.specs.Operations.{directives, ignored_directives, as_ignored, operation_of};
 ghost use Rattle.orca_object.specs.Tables.{directives_after_gequ};
-ghost use Rattle.asm_meaning.specs.Statement.{following_here, is_some_text, is_labelled, needs_segment, begins_segment, needs_label, label_of};
+ghost use Rattle.asm_meaning.specs.Statement.{following_here, is_labelled, needs_segment, begins_segment, needs_label, label_of};
 ghost use Rattle.orca_operands.specs.OperandView.{name_answer, no_label};
 ghost use Rattle.asm_meaning.specs.State.{State};
 ghost use Rattle.orca_object.specs.DoneView.{IsSome};
@@ -167,7 +167,7 @@ fn is_labelled(label: &[u8]) -> bool
 
 /// Whether an operand begins with `*+`.
 fn begins_here(operand: &[u8]) -> bool
-    ensures { result ≡ is_some_text (following_here operand.now) }
+    ensures { result ≡ is_some (following_here operand.now) }
 {
     match following_here(operand) {
         Some(_) => true,

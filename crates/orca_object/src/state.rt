@@ -248,7 +248,8 @@ impl OpenSegment {
 
 impl AsmState {
     ghost use Rattle.std.specs.Prelude.{◌≡◌, [], is_some, None, OnOk};
-    ghost use Rattle.asm_meaning.specs.State.{State, start, in_segment, with_local_record, is_too_long};
+    ghost use Rattle.asm_meaning.specs.State.{State, start, in_segment, with_local_record};
+    ghost use Rattle.asm_meaning.specs.laws.Steps.{is_too_long};
     ghost use Rattle.asm_meaning.specs.declared.directives.Operation.{Operation};
     ghost use Rattle.asm_meaning.specs.Statement.{constants_of, is_taken, begins_segment};
     ghost use Rattle.orca_operands.specs.NamesView.{constants};

@@ -1,7 +1,8 @@
 //! LONGA, LONGI and MSB (ORCA/M reference manual, "Assembler directives").
 
 ghost use Rattle.std.specs.Prelude.{◌≡◌, IfOk};
-ghost use Rattle.asm_meaning.specs.Statement.{switch_of, turning};
+ghost use Rattle.asm_meaning.specs.Statement.{switch_of};
+ghost use Rattle.asm_meaning.specs.laws.Steps.{turning};
 ghost use Rattle.asm_meaning.specs.State.{State};
 ghost use Rattle.orca_object.specs.StateView.{ShowsState, Leaves};
 

@@ -16,7 +16,8 @@ use Rattle.asm_meaning.specs.declared.faults.AsmCause.TheVariants.{BadMode}
 use Rattle.asm_meaning.specs.Answer.{Answer}
 use Rattle.asm_meaning.specs.Constant as meaning
 use Rattle.asm_meaning.specs.Constant.{Constants, amount}
-use Rattle.asm_meaning.specs.Instruction.{Widths, operand_bytes, with_number, with_amount, without_amount, in_modes, modes_of_form, instruction}
+use Rattle.asm_meaning.specs.Instruction.{Widths, operand_bytes, with_number, with_amount, without_amount, modes_of_form, instruction}
+use Rattle.asm_meaning.specs.laws.Steps.{in_modes}
 use Rattle.asm_meaning.specs.Pieces.{Piece}
 use Rattle.orca_text.specs.declared.operand.Operand.{Operand}
 use Rattle.orca_text.specs.OperandView.{IsWritten, first_terms, second_terms}

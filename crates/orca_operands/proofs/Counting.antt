@@ -11,7 +11,8 @@ use Rattle.orca_text.specs.FormulaAt.{IsFormulaAt, HasNoFormula}
 use Rattle.orca_text.specs.Kept.{fitting}
 use Rattle.asm_meaning.specs.Answer.{Answer}
 use Rattle.asm_meaning.specs.Constant.{Constants}
-use Rattle.asm_meaning.specs.Elements.{Repeat, Digits, Computed, after_parenthesis, IsRepeatBy, IsRepeatAt, count_of}
+use Rattle.asm_meaning.specs.Elements.{Repeat, Digits, Computed, after_parenthesis, IsRepeatAt, count_of}
+use Rattle.asm_meaning.specs.laws.Steps.{IsRepeatBy}
 use Rattle.orca_operands.specs.DcView.{IsComputed, IsCounted, HasCount, count_by}
 
 pub if_some : {A : Type 0} (P Q : A → Type 0) (o : Option A) → IfSome o P → ((x : A) → P x → Q x) → IfSome o Q

@@ -6,7 +6,8 @@ use Rattle.omf_format.specs.Expression.{Leaf, Named, term_text}
 use Rattle.orca_meaning.specs.Token.{digits_at}
 use Rattle.asm_meaning.specs.Answer.{Answer}
 use Rattle.asm_meaning.specs.Constant.{Constants}
-use Rattle.asm_meaning.specs.Elements.{Repeat, Numbers, Fixed, Text, Asked, Weak, Element, ElementType, Number, Hexadecimal, Binary, Characters, References, WeakReferences, closed_at, text_at, kind_at, bytes_of_digits, AreNames, IsRepeatAt, IsElementAt, IsValueAt, after_parenthesis, text_byte, strong_piece, weak_piece, element_pieces}
+use Rattle.asm_meaning.specs.Elements.{Repeat, Numbers, Fixed, Text, Asked, Weak, Element, ElementType, Number, Hexadecimal, Binary, Characters, References, WeakReferences, closed_at, text_at, kind_at, bytes_of_digits, AreNames, IsRepeatAt, IsElementAt, IsValueAt, after_parenthesis, element_pieces}
+use Rattle.asm_meaning.specs.laws.Steps.{text_byte, strong_piece, weak_piece}
 use Rattle.asm_meaning.specs.Formulas.{expression_text}
 use Rattle.asm_meaning.specs.laws.GivenLaws.{IsNameLength, closed-le, names_length, repeat-le, kind_is, IsWidth}
 use Rattle.asm_meaning.specs.Pieces.{Piece, Bytes}

@@ -17,7 +17,8 @@ use Rattle.asm_meaning.specs.laws.AmountLaws.{tree-with_values, pending-with_val
 use Rattle.asm_meaning.specs.Answer.{Answer}
 use Rattle.orca_operands.specs.FineView.{IsFineAmount}
 use Rattle.asm_meaning.specs.Constant as meaning
-use Rattle.asm_meaning.specs.Constant.{Constants, with_values, known_value, required_number, amount, amount_by, AreSmall}
+use Rattle.asm_meaning.specs.Constant.{Constants, with_values, known_value, required_number, amount, AreSmall}
+use Rattle.asm_meaning.specs.laws.Steps.{amount_by}
 use Rattle.asm_meaning.specs.Formulas.{checked_formula, formula_of}
 use Rattle.orca_operands.specs.declared.amount.Amount.{Amount}
 use Rattle.orca_operands.specs.declared.amount.Amount.TheVariants as amounts

@@ -4,7 +4,8 @@ use Rattle.std.specs.Prelude.{Result}
 use Rattle.std.proofs.lemmas.Bool.{ltb-true, ltb-false, lt-ltb, le-ltb}
 use Rattle.std.proofs.lemmas.List.{map-append}
 use Rattle.asm_meaning.specs.declared.faults.AsmCause.{AsmCause}
-use Rattle.asm_meaning.specs.Answer.{Answer, rank, earlier, pair_or_earlier_fault, with_first, all_of}
+use Rattle.asm_meaning.specs.Answer.{Answer, rank, earlier, pair_or_earlier_fault, all_of}
+use Rattle.asm_meaning.specs.laws.Steps.{with_first}
 use Rattle.orca_operands.specs.DcView.{map_answer, fault_after, all_following, all_or}
 
 -- ---- the earliest fault

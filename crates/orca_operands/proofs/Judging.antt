@@ -15,7 +15,8 @@ use Rattle.asm_meaning.specs.declared.faults.AsmCause.{AsmCause}
 use Rattle.asm_meaning.specs.declared.faults.AsmCause.TheVariants.{BadOperand, BadNumber, UnknownConstant}
 use Rattle.asm_meaning.specs.Answer.{Answer}
 use Rattle.asm_meaning.specs.Constant as meaning
-use Rattle.asm_meaning.specs.Constant.{Constants, Known, Written, Number, Open, Divided, KnownValue, known_value, amount, amount_by, required_number, with_values}
+use Rattle.asm_meaning.specs.Constant.{Constants, Known, Written, Number, Open, Divided, KnownValue, known_value, amount, required_number, with_values}
+use Rattle.asm_meaning.specs.laws.Steps.{amount_by}
 use Rattle.asm_meaning.specs.Elements.{number_piece, piece_of_number}
 use Rattle.asm_meaning.specs.Formulas.{AreFormulas, checked_formula, number_of}
 use Rattle.asm_meaning.specs.Pieces.{Piece}

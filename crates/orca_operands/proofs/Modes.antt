@@ -6,7 +6,8 @@ use Rattle.orca_meaning.specs.declared.forms.Prefix.{Prefix}
 use Rattle.orca_meaning.specs.declared.mnemonics.Mnemonic.{Mnemonic}
 use Rattle.orca_meaning.specs.declared.modes.Mode.{Mode}
 use Rattle.asm_meaning.specs.Answer.{Answer}
-use Rattle.asm_meaning.specs.Instruction.{Widths, OperandKind, kind_of, operand_bytes, is_operand_of_width, or_fault, mode_of_number}
+use Rattle.asm_meaning.specs.Instruction.{Widths, OperandKind, kind_of, operand_bytes, is_operand_of_width, mode_of_number}
+use Rattle.asm_meaning.specs.laws.Steps.{or_fault}
 use Rattle.orca_operands.specs.ModeView.{number_test}
 
 same : (x y : Mode) → Some x ≡ Some y → x ≡ y

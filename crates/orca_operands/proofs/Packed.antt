@@ -9,7 +9,8 @@ use Rattle.orca_operands.proofs.Quoted.{neq-eqb}
 use Rattle.std.proofs.lemmas.Int.Digits.{digits_value-lt}
 use Rattle.std.proofs.lemmas.List.{take-replicate, length-take, length-append, length-drop}
 use Rattle.std.proofs.lemmas.List.Folds.{list_all-append}
-use Rattle.asm_meaning.specs.Elements.{bytes_of_group_digits, packed_digits, without_spaces}
+use Rattle.asm_meaning.specs.Elements.{bytes_of_group_digits, packed_digits}
+use Rattle.asm_meaning.specs.laws.Steps.{without_spaces}
 use Rattle.orca_operands.specs.DigitsView.{are_digits, groups}
 
 -- ---- padding

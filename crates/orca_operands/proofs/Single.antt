@@ -5,7 +5,8 @@ use Rattle.std.proofs.lemmas.List.{length-append}
 use Rattle.omf_format.specs.Expression.{Term, Operator, Location, Constant, Named, Offset, Tree, Leaf, Unary, Binary, terms_of, terms_text}
 use Rattle.asm_meaning.specs.Answer.{Answer}
 use Rattle.asm_meaning.specs.Constant as meaning
-use Rattle.asm_meaning.specs.Constant.{Constants, number_or, number_or_open, known_value, amount}
+use Rattle.asm_meaning.specs.Constant.{Constants, known_value, amount}
+use Rattle.asm_meaning.specs.laws.Steps.{number_or, number_or_open, worth_of_term}
 use Rattle.orca_operands.specs.AmountView.{written_term, written_terms, is_number_term, IsFormulaOf, AmountBytes, Number, Text, kept_answer}
 use Rattle.orca_operands.proofs.Values.{one_written}
 use Rattle.orca_operands.proofs.Written.{amount_open, number_is}
@@ -17,7 +18,7 @@ some_terms (Unary code a) e = omega (arith, e, length-append (terms_of a) (Opera
 some_terms (Binary code a b) e = omega (arith, e, length-append (terms_of a) (terms_of b ++ Operator code ∷ []), length-append (terms_of b) (Operator code ∷ []))
 
 -- a number alone
-number_term : (constants : Constants) (t : Term) (n : ℕ) → Constant n ≡ written_term constants t → meaning.Number n ≡ meaning.worth_of_term constants t
+number_term : (constants : Constants) (t : Term) (n : ℕ) → Constant n ≡ written_term constants t → meaning.Number n ≡ worth_of_term constants t
 number_term constants (Operator code) n is = absurd cc
 number_term constants Location n is = absurd cc
 number_term constants (Constant m) n is = same m n is

@@ -12,7 +12,8 @@ use Rattle.omf_format.specs.declared.value.ValueFault.TheVariants.{DivideByZero}
 use Rattle.omf_format.specs.Expression.{Term, Operator, Location, Constant, Named, Offset, Tree, Leaf, Unary, Binary, IsTree, terms_of, Spells, Expression, BeginsWith}
 use Rattle.omf_format.specs.Field.{◌>>=◌}
 use Rattle.omf_format.specs.Value.{value, size_of, operand_value, apply_one, apply_two, number_of_one, number_of_two, divides}
-use Rattle.asm_meaning.specs.Constant.{Constants, KnownValue, Number, Open, Divided, number_or_open, number_or, with_values, known_value, worth_of_one, worth_of_two}
+use Rattle.asm_meaning.specs.Constant.{Constants, KnownValue, Number, Open, Divided, with_values, known_value, worth_of_two}
+use Rattle.asm_meaning.specs.laws.Steps.{number_or_open, number_or, worth_of_one}
 use Rattle.orca_operands.specs.AmountView.{written_term, written_terms, all_written, is_number_term, are_numbers, worth_of_value, no_environment}
 
 -- ---- through bytes

@@ -10,7 +10,8 @@ use Rattle.asm_meaning.specs.declared.faults.AsmCause.TheVariants.{DivideByZero}
 use Rattle.asm_meaning.specs.Answer.{Answer}
 use Rattle.asm_meaning.specs.laws.AmountLaws.{pending-with_values}
 use Rattle.asm_meaning.specs.Constant as meaning
-use Rattle.asm_meaning.specs.Constant.{Constants, number_or, with_values, known_value, amount, amount_by}
+use Rattle.asm_meaning.specs.Constant.{Constants, with_values, known_value, amount}
+use Rattle.asm_meaning.specs.laws.Steps.{number_or, amount_by}
 use Rattle.orca_operands.specs.AmountView.{written_term, written_terms, with_terms, all_written, is_number_term, are_numbers, worth_of_value, no_environment, placed_by, IsFormulaOf, AmountBytes, Number, Text, kept_answer}
 use Rattle.orca_operands.proofs.Values.{numbers_append, written_append, one_written, worth_is_value, worth_is_open}
 

@@ -2,7 +2,8 @@
 
 ghost use Rattle.asm_meaning.specs.Constant.{Constants};
 ghost use Rattle.std.specs.Prelude.{◌≡◌, ◌≤◌, Bool, ◌∷◌, ◌⊎◌, ◌^◌, [], List, ℕ, map, Some, None, Ok, Err, IfOk, IfSome, IfNone};
-ghost use Rattle.asm_meaning.specs.Elements.{Element, ElementValue, IsElementAt, text_byte, strong_piece, weak_piece};
+ghost use Rattle.asm_meaning.specs.Elements.{Element, ElementValue, IsElementAt};
+ghost use Rattle.asm_meaning.specs.laws.Steps.{text_byte, strong_piece, weak_piece};
 ghost use Rattle.asm_meaning.specs.Elements as elements;
 ghost use Rattle.asm_meaning.specs.Pieces.{Bytes};
 ghost use Rattle.asm_meaning.specs.Formulas.{expression_text};

@@ -4,7 +4,8 @@ ghost use Rattle.std.specs.Prelude.{◌≡◌, ◌≤◌, ◌<◌, ◌+◌, ◌-
 ghost use Rattle.std.specs.Char.{is_digit, digit_value};
 ghost use Rattle.std.specs.List.{list_all};
 ghost use Rattle.std.specs.Str.Parse.{digits_value};
-ghost use Rattle.asm_meaning.specs.Elements.{bytes_of_group_digits, packed_digits, without_spaces, bytes_of_digits};
+ghost use Rattle.asm_meaning.specs.Elements.{bytes_of_group_digits, packed_digits, bytes_of_digits};
+ghost use Rattle.asm_meaning.specs.laws.Steps.{without_spaces};
 ghost use Rattle.orca_operands.specs.DigitsView.{are_digits, groups};
 
 use orca_text::digit;

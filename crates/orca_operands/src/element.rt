@@ -1,7 +1,8 @@
 //! The parts of DC's elements (ORCA/M reference manual, "Declare Constant").
 
 ghost use Rattle.std.specs.Prelude.{◌≡◌, ◌≢◌, ◌≤◌, ◌<◌, ◌+◌, ◌∷◌, ◌++◌, ◌&&◌, ◌||◌, ◌==◌, [], List, ℕ, length, take, drop, map, position, Some, None, IfOk, IfSome, MatchOption};
-ghost use Rattle.asm_meaning.specs.Elements.{after_parenthesis, closed_at, text_at, width_at, kind_at, text_byte, in_range};
+ghost use Rattle.asm_meaning.specs.Elements.{after_parenthesis, closed_at, text_at, width_at, kind_at, in_range};
+ghost use Rattle.asm_meaning.specs.laws.Steps.{text_byte};
 ghost use Rattle.orca_operands.specs.ElementView.{element_kind, with_bytes};
 
 use asm_meaning::AsmCause;

@@ -3,7 +3,8 @@
 ghost use Rattle.std.specs.Prelude.{◌≡◌, ◌+◌, ◌-◌, ◌^◌, ◌≤◌, ◌<◌, ◌==◌, ◌&&◌, true, map, filter, find, length, nat_lt, nat_le, ◌/◌, Some, None, Ok, Err};
 ghost use Rattle.orca_meaning.specs.Length.{length_of};
 ghost use Rattle.orca_meaning.specs.Operation.{has_mode};
-ghost use Rattle.asm_meaning.specs.Instruction.{operand_bytes, modes_of, kind_of, is_address, is_value, is_asked, modes_of_form, value_shift, is_bare, fits_value, is_operand_of_width, or_fault, or_first, mode_of_number, mode_of_tree, shift_in, is_distance};
+ghost use Rattle.asm_meaning.specs.Instruction.{operand_bytes, modes_of, kind_of, is_address, is_value, is_asked, modes_of_form, fits_value, is_operand_of_width, or_first, mode_of_number, shift_in, is_distance};
+ghost use Rattle.asm_meaning.specs.laws.Steps.{value_shift, is_bare, mode_of_tree, or_fault};
 ghost use Rattle.orca_operands.specs.ModeView.{widths, kind, offered_test, number_test, two_test};
 
 use asm_meaning::AsmCause;

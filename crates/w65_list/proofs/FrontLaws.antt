@@ -10,7 +10,8 @@ use Rattle.omf_format.specs.File.{Segment}
 use Rattle.w65_list.proofs.RecordRuns.{rest_of}
 use Rattle.omf_records.specs.WalkLaws.{walk_on, walk_ends}
 use Rattle.object_meaning.specs.Sizes.{size_at, records_with_offsets, place_after, body_size}
-use Rattle.list_meaning.specs.Listing.{greatest_length, is_lost, has_lost_place}
+use Rattle.list_meaning.specs.Listing.{is_lost}
+use Rattle.list_meaning.specs.laws.Steps.{greatest_length, has_lost_place}
 use Rattle.w65_list.specs.FrontView.{has_listable_length, is_lost_from, HaveCells, AreOver, Counted}
 
 -- ---- a number as a place

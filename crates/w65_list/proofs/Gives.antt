@@ -1,6 +1,6 @@
 -- What a record gives: its lines after those of the run.
 use Rattle.std.proofs.Common.{◌≡◌, ℕ, Bool, true, false, cond, List, [], ◌∷◌, ◌++◌, length, Option, Some, None, refl, sym, ap, subst, ◌∙◌, arith}
-use Rattle.std.specs.Prelude.{not, ◌&&◌, ◌||◌, ◌==◌}
+use Rattle.std.specs.Prelude.{not, ◌&&◌, ◌||◌, ◌==◌, is_some}
 use Rattle.std.specs.List.{list_all, list_any, IsLastAndRest}
 use Rattle.omf_format.specs.Expression.{Tree, terms_of, Spells}
 use Rattle.omf_format.specs.Header.{HeaderFields}
@@ -8,7 +8,8 @@ use Rattle.omf_format.specs.Record as format
 use Rattle.object_meaning.specs.laws.TreeInLaws.{tree_in-again}
 use Rattle.list_meaning.specs.Listed.{ListedStatement, Wanted}
 use Rattle.list_meaning.specs.Listing as listing
-use Rattle.list_meaning.specs.Listing.{Given, are_short, if_short, then_said, with_run_written, split_last, after_byte, is_held, held_back, dc_of_formula, weak_of, simple_of, number_of, formula_given, formula_listable, expr_listable, term_listable, term_may_stand, is_open, is_some_name, is_some_wanted, follows_opcode, equate_given, on_tree, given_by}
+use Rattle.list_meaning.specs.Listing.{Given, if_short, then_said, with_run_written, split_last, dc_of_formula, weak_of, simple_of, number_of, formula_given, formula_listable, term_listable, term_may_stand, is_open, equate_given, given_by}
+use Rattle.list_meaning.specs.laws.Steps.{are_short, after_byte, held_back, expr_listable, follows_opcode, on_tree, is_held}
 use Rattle.list_lines.specs.declared.output.ListingText.{ListingText}
 use Rattle.w65_list.specs.declared.records.PendingRun.{PendingRun}
 use Rattle.w65_list.specs.Giving.{Gave, IsGiven, held_by, held_with, equate_by}
@@ -136,15 +137,15 @@ held_is b code count n tree opcode wanted simple h e =
 
 pub listable_same : (all : List (List ℕ)) (b : listing.PendingRun) (code count n : ℕ) (tree : Tree) (named written varies : Bool) (weak : Option (List ℕ)) (simple : Option Wanted) (run : List ℕ)
     → named ≡ list_all (term_listable all) (terms_of tree) → written ≡ list_all term_may_stand (terms_of tree) → varies ≡ list_any is_open (terms_of tree) → weak ≡ weak_of tree → simple ≡ simple_of tree → run ≡ b.run
-    → (named && cond (code == 0xEB) (cond (is_some_name weak) (count == 2) (written && varies)) (is_some_wanted simple && follows_opcode code count n (split_last run))) ≡ formula_listable all b code count n tree
+    → (named && cond (code == 0xEB) (cond (is_some weak) (count == 2) (written && varies)) (is_some simple && follows_opcode code count n (split_last run))) ≡ formula_listable all b code count n tree
 unfolding formula_listable
 listable_same all b code count n tree named written varies weak simple run p q r s t u =
-    ap (λ (x : Bool). x && cond (code == 0xEB) (cond (is_some_name weak) (count == 2) (written && varies)) (is_some_wanted simple && follows_opcode code count n (split_last run))) p
-    ∙ ap (λ (x : Bool). list_all (term_listable all) (terms_of tree) && cond (code == 0xEB) (cond (is_some_name weak) (count == 2) (x && varies)) (is_some_wanted simple && follows_opcode code count n (split_last run))) q
-    ∙ ap (λ (x : Bool). list_all (term_listable all) (terms_of tree) && cond (code == 0xEB) (cond (is_some_name weak) (count == 2) (list_all term_may_stand (terms_of tree) && x)) (is_some_wanted simple && follows_opcode code count n (split_last run))) r
-    ∙ ap (λ (x : Option (List ℕ)). list_all (term_listable all) (terms_of tree) && cond (code == 0xEB) (cond (is_some_name x) (count == 2) (list_all term_may_stand (terms_of tree) && list_any is_open (terms_of tree))) (is_some_wanted simple && follows_opcode code count n (split_last run))) s
-    ∙ ap (λ (x : Option Wanted). list_all (term_listable all) (terms_of tree) && cond (code == 0xEB) (expr_listable count tree) (is_some_wanted x && follows_opcode code count n (split_last run))) t
-    ∙ ap (λ (x : List ℕ). list_all (term_listable all) (terms_of tree) && cond (code == 0xEB) (expr_listable count tree) (is_some_wanted (simple_of tree) && follows_opcode code count n (split_last x))) u
+    ap (λ (x : Bool). x && cond (code == 0xEB) (cond (is_some weak) (count == 2) (written && varies)) (is_some simple && follows_opcode code count n (split_last run))) p
+    ∙ ap (λ (x : Bool). list_all (term_listable all) (terms_of tree) && cond (code == 0xEB) (cond (is_some weak) (count == 2) (x && varies)) (is_some simple && follows_opcode code count n (split_last run))) q
+    ∙ ap (λ (x : Bool). list_all (term_listable all) (terms_of tree) && cond (code == 0xEB) (cond (is_some weak) (count == 2) (list_all term_may_stand (terms_of tree) && x)) (is_some simple && follows_opcode code count n (split_last run))) r
+    ∙ ap (λ (x : Option (List ℕ)). list_all (term_listable all) (terms_of tree) && cond (code == 0xEB) (cond (is_some x) (count == 2) (list_all term_may_stand (terms_of tree) && list_any is_open (terms_of tree))) (is_some simple && follows_opcode code count n (split_last run))) s
+    ∙ ap (λ (x : Option Wanted). list_all (term_listable all) (terms_of tree) && cond (code == 0xEB) (expr_listable count tree) (is_some x && follows_opcode code count n (split_last run))) t
+    ∙ ap (λ (x : List ℕ). list_all (term_listable all) (terms_of tree) && cond (code == 0xEB) (expr_listable count tree) (is_some (simple_of tree) && follows_opcode code count n (split_last x))) u
 
 -- ---- an equate
 

@@ -4,7 +4,8 @@ use Rattle.std.specs.Prelude.{◌&&◌}
 use Rattle.std.specs.List.{flat_map}
 use Rattle.std.proofs.lemmas.Bool.{le-leb, lt-leb, leb-false, ltb-true, ltb-false}
 use Rattle.std.proofs.lemmas.List.Concat.{flat_map-cons, flat_map-append}
-use Rattle.list_meaning.specs.Listed.{ListedStatement, said_text, line_text, listing_text}
+use Rattle.list_meaning.specs.Listed.{ListedStatement, said_text, listing_text}
+use Rattle.list_meaning.specs.laws.Steps.{line_text}
 use Rattle.list_lines.specs.Kept.{Kept, so_far, with_line, with_lines}
 
 same_test : (a b : ℕ) → ltb a b ≡ leb (a + 1) b

@@ -18,7 +18,8 @@ use Rattle.list_meaning.specs.declared.faults.ListCause.TheVariants as causes
 use Rattle.list_meaning.specs.declared.faults.ListFault.{ListFault}
 use Rattle.list_meaning.specs.Answer.{IsListing, IsListFault, OutOfMemory, InFile, InSegment, InSize, cause_of}
 use Rattle.list_meaning.specs.Listed.{ListedStatement, listing_text}
-use Rattle.list_meaning.specs.Listing.{PendingRun, Given, is_among, equate_name, equates_of, given_by, or_record, said_from, at_front, front_of, has_listable_header, is_short, listing_of, in_segment, listing_from, is_small}
+use Rattle.list_meaning.specs.Listing.{PendingRun, Given, is_among, equate_name, given_by, said_from, front_of, has_listable_header, is_short, listing_of, in_segment, listing_from, is_small}
+use Rattle.list_meaning.specs.laws.Steps.{equates_of, or_record, at_front}
 use Rattle.list_lines.specs.declared.names.Names.{Names}
 use Rattle.list_lines.specs.declared.output.ListingText.{ListingText}
 use Rattle.w65_list.specs.declared.records.PendingRun as kept_before

@@ -7,7 +7,8 @@ use Rattle.omf_format.specs.Header.{HeaderFields, form_of}
 use Rattle.omf_format.specs.Record.{Record}
 use Rattle.omf_format.specs.Reading.{Reader, HandsOut}
 use Rattle.object_meaning.specs.Sizes.{located_from, place_after, body_size}
-use Rattle.list_meaning.specs.Listing.{is_listed_form, is_listable, is_listable_load_name, greatest_length, is_lost, has_lost_place}
+use Rattle.list_meaning.specs.Listing.{is_listable, is_listable_load_name, is_lost}
+use Rattle.list_meaning.specs.laws.Steps.{is_listed_form, greatest_length, has_lost_place}
 
 -- ALIGN is 0, or a power of two up to $10000
 abbrev pub can_align : ℕ → Bool

@@ -4,7 +4,8 @@ use Rattle.omf_format.specs.Expression.{IsExpression}
 use Rattle.omf_format.specs.Record.{Record, Equate, Formula}
 use Rattle.list_meaning.specs.Listed.{Wanted}
 use Rattle.list_meaning.specs.Listing as listing
-use Rattle.list_meaning.specs.Listing.{Given, is_held}
+use Rattle.list_meaning.specs.Listing.{Given}
+use Rattle.list_meaning.specs.laws.Steps.{is_held}
 use Rattle.list_lines.specs.declared.output.ListingText.{ListingText}
 use Rattle.w65_list.specs.declared.records.PendingRun.{PendingRun}
 use Rattle.w65_list.specs.declared.records.ListedFormula as declared

@@ -1,6 +1,6 @@
 //! The lines of records.
 
-ghost use Rattle.std.specs.Prelude.{◌≡◌, ◌∷◌, ◌≤◌, ◌==◌, if◌then◌else◌, ◌&&◌, ◌||◌, [], ℕ, List, true, ◌++◌, None, Some, not, false, nat_le, option_map, IfSome, IfOk, OnOk, IsErrOf};
+ghost use Rattle.std.specs.Prelude.{◌≡◌, ◌∷◌, ◌≤◌, ◌==◌, if◌then◌else◌, ◌&&◌, ◌||◌, [], ℕ, List, true, ◌++◌, None, Some, not, false, nat_le, option_map, IfSome, IfOk, OnOk, IsErrOf, is_some};
 ghost use Rattle.std.specs.Int.{is_power_of_two};
 ghost use Rattle.std.specs.List.{list_all};
 ghost use Rattle.omf_format.specs.declared.codes.TheConstants.{EXPR};
@@ -14,7 +14,8 @@ ghost use Rattle.asm_meaning.specs.Instruction.{kind_of, address_code};
 ghost use Rattle.object_meaning.specs.Terms.{tree_in};
 ghost use Rattle.list_meaning.specs.Listed.{ListedStatement, Aligns, OrgIs, Ds, UsingIs, StrongIs, Labels, Equates, FormulaIs, WeakIs, EndIs};
 ghost use Rattle.list_meaning.specs.Listing as listing;
-ghost use Rattle.list_meaning.specs.Listing.{Given, is_record, record_by, record_of_opcode, with_run_written, then_said, with_name, is_among, is_listable, is_short, are_short, if_short, unless_zero, equate_given, number_of, both_long, follows_opcode, is_some_name, is_some_wanted, dc_of_formula, weak_of, simple_of, split_last, is_held, held_back, formula_listable, formula_given, given_by};
+ghost use Rattle.list_meaning.specs.Listing.{Given, is_record, record_by, record_of_opcode, with_run_written, then_said, with_name, is_among, is_listable, is_short, if_short, unless_zero, equate_given, number_of, both_long, dc_of_formula, weak_of, simple_of, split_last, formula_listable, formula_given, given_by};
+ghost use Rattle.list_meaning.specs.laws.Steps.{are_short, follows_opcode, held_back, is_held};
 ghost use Rattle.w65_list.specs.BeforeView.{IsBefore};
 ghost use Rattle.list_lines.specs.FormulaView.{IsFront, simple_four, weak_two};
 ghost use Rattle.w65_list.specs.Giving.{Gave, IsGiven, formula_seen, held_by, held_with, equate_by, HasExpression};
@@ -177,7 +178,7 @@ fn may_stand(global: bool, private: u8) -> bool
 
 /// Whether an EXPR can be listed whose names can: it is a weak name of two bytes, or a formula that is written.
 fn is_listable_expr(known: FormulaFacts, count: u8, front: Front) -> bool
-    ensures { result ≡ (if is_some_name (weak_two (option_map seen front.entry.first) (option_map seen front.entry.second)) then count == 2 else (known.written && known.varies)) }
+    ensures { result ≡ (if is_some (weak_two (option_map seen front.entry.first) (option_map seen front.entry.second)) then count == 2 else (known.written && known.varies)) }
 {
     match front.weak() {
         Some(_) => count == 2,
@@ -187,7 +188,7 @@ fn is_listable_expr(known: FormulaFacts, count: u8, front: Front) -> bool
 
 /// Whether another expression record can be listed whose names can: it is simple, and follows on an opcode that has it.
 fn is_listable_operand(run: &[u8], formula: ListedFormula, front: Front) -> bool
-    ensures { result ≡ (is_some_wanted (simple_four (option_map seen front.entry.first) (option_map seen front.entry.second) (option_map seen front.entry.third) (option_map seen front.entry.fourth))
+    ensures { result ≡ (is_some (simple_four (option_map seen front.entry.first) (option_map seen front.entry.second) (option_map seen front.entry.third) (option_map seen front.entry.fourth))
         && follows_opcode formula.code formula.count formula.n (split_last run.now)) }
 {
     match front.simple() {
@@ -204,8 +205,8 @@ fn is_listable_by_kind(
     front: Front,
 ) -> bool
     ensures { result ≡ (if formula.code == EXPR
-        then (if is_some_name (weak_two (option_map seen front.entry.first) (option_map seen front.entry.second)) then formula.count == 2 else (known.written && known.varies))
-        else (is_some_wanted (simple_four (option_map seen front.entry.first) (option_map seen front.entry.second) (option_map seen front.entry.third) (option_map seen front.entry.fourth))
+        then (if is_some (weak_two (option_map seen front.entry.first) (option_map seen front.entry.second)) then formula.count == 2 else (known.written && known.varies))
+        else (is_some (simple_four (option_map seen front.entry.first) (option_map seen front.entry.second) (option_map seen front.entry.third) (option_map seen front.entry.fourth))
         && follows_opcode formula.code formula.count formula.n (split_last run.now))) }
 {
     if formula.code == EXPR {

@@ -13,7 +13,8 @@ use Rattle.omf_format.specs.laws.Steps.{bits_of, arithmetic, logical, comparison
 use Rattle.orca_meaning.specs.Formula.{pending, with_location_less}
 use Rattle.orca_meaning.specs.laws.Steps.{values_of}
 use Rattle.asm_meaning.specs.Answer.{Answer}
-use Rattle.asm_meaning.specs.Constant.{Constants, AreSmall, KnownValue, Number, Open, Divided, number_or_open, worth_of_one, worth_of_two, known_value, number_or, with_values, Amount, Known, Written, amount_by, amount}
+use Rattle.asm_meaning.specs.Constant.{Constants, AreSmall, KnownValue, Number, Open, Divided, worth_of_two, known_value, with_values, Amount, Known, Written, amount}
+use Rattle.asm_meaning.specs.laws.Steps.{number_or_open, worth_of_one, number_or, amount_by}
 use Rattle.asm_meaning.specs.Formulas.{expression_text}
 
 -- ---- known values in place of names

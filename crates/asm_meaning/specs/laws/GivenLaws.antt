@@ -24,9 +24,10 @@ use Rattle.orca_meaning.specs.laws.Steps.{after_prefix}
 use Rattle.orca_meaning.specs.Token.{digits_at, Token, Stand, expects_following, name_at, Found}
 use Rattle.orca_meaning.specs.laws.TokenLaws.{token-shorter}
 use Rattle.asm_meaning.specs.declared.faults.AsmCause.TheVariants.{BadOperand, BadNumber}
-use Rattle.asm_meaning.specs.Answer.{Answer, pair_or_earlier_fault, all_of, with_first}
+use Rattle.asm_meaning.specs.Answer.{Answer, pair_or_earlier_fault, all_of}
+use Rattle.asm_meaning.specs.laws.Steps.{with_first, IsRepeatBy, weak_piece, strong_piece, joined_pieces}
 use Rattle.asm_meaning.specs.Constant.{Constants, Amount, Known, Written, amount, AreSmall}
-use Rattle.asm_meaning.specs.Elements.{with_byte, text_at, IsList, Repeat, ElementValue, Element, ElementType, Number, Hexadecimal, Binary, Characters, References, WeakReferences, closed_at, kind_at, width_at, AreNames, IsValueAt, IsRepeatBy, after_parenthesis, IsElementAt, AreElements, count_of, number_piece, piece_of_number, weak_piece, strong_piece, value_pieces, element_pieces, list_pieces, joined_pieces}
+use Rattle.asm_meaning.specs.Elements.{with_byte, text_at, IsList, Repeat, ElementValue, Element, ElementType, Number, Hexadecimal, Binary, Characters, References, WeakReferences, closed_at, kind_at, width_at, AreNames, IsValueAt, after_parenthesis, IsElementAt, AreElements, count_of, number_piece, piece_of_number, value_pieces, element_pieces, list_pieces}
 use Rattle.asm_meaning.specs.Formulas.{AreFormulas, checked_formula, expression_text}
 use Rattle.asm_meaning.specs.Instruction.{Widths, modes_of_form, instruction}
 use Rattle.asm_meaning.specs.Pieces.{Piece, IsPlainPiece, ArePlainPieces}

@@ -26,7 +26,8 @@ use Rattle.asm_meaning.specs.declared.faults.AsmCause.TheVariants.{DoesNotFit}
 use Rattle.asm_meaning.specs.Answer.{Answer, pair_or_earlier_fault}
 use Rattle.asm_meaning.specs.Constant.{Constants, Amount, Known, Written, amount, tree_of_amount, AreSmall}
 use Rattle.asm_meaning.specs.Formulas.{expression_text}
-use Rattle.asm_meaning.specs.Instruction.{Widths, operand_bytes, modes_of, OperandKind, Missing, Value, Address, Distance, Banks, Sign, kind_of, is_address, modes_of_form, address_code, is_long_jump, operand_record, with_right_shift, shift_in, with_tree, with_number, with_known, with_amount, without_amount, mode_of_number, mode_of_tree, or_fault, or_first, is_operand_of_width, is_distance, bank, bank_record, banks_written, block_move_pieces, given_by, in_modes}
+use Rattle.asm_meaning.specs.Instruction.{Widths, operand_bytes, modes_of, OperandKind, Missing, Value, Address, Distance, Banks, Sign, kind_of, is_address, modes_of_form, address_code, is_long_jump, operand_record, with_right_shift, shift_in, with_tree, with_number, with_known, with_amount, without_amount, mode_of_number, or_first, is_operand_of_width, is_distance, bank, bank_record, banks_written, block_move_pieces, given_by}
+use Rattle.asm_meaning.specs.laws.Steps.{mode_of_tree, in_modes, or_fault}
 use Rattle.asm_meaning.specs.Pieces.{Piece, IsPlain, ArePlainPieces}
 use Rattle.asm_meaning.specs.laws.AmountLaws.{IsFineAmount, fine_amount, is_written, tree-placed}
 

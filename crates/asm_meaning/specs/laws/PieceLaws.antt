@@ -7,7 +7,7 @@ use Rattle.omf_format.specs.Record.{Record, Const, LongConst}
 use Rattle.object_meaning.specs.laws.RunLaws.{IsBodyRecord}
 use Rattle.object_meaning.specs.Sizes.{size_at}
 use Rattle.asm_meaning.specs.Pieces.{IsPlain, IsPlainPiece, ArePlainPieces, Piece, Bytes, Whole, constant_records, records_after, copies, place_after, length_at}
-use Rattle.asm_meaning.specs.Elements.{joined_pieces}
+use Rattle.asm_meaning.specs.laws.Steps.{joined_pieces}
 
 abbrev pub ArePlain : List Record → Type 0
 ArePlain rs = AllByRecursion IsPlain rs

@@ -20,8 +20,9 @@ use Rattle.asm_meaning.specs.Constant.{amount, tree_of_amount}
 use Rattle.asm_meaning.specs.Formulas.{formula_of}
 use Rattle.asm_meaning.specs.Operations.{operation_of}
 use Rattle.asm_meaning.specs.Pieces.{place_after, length_at}
-use Rattle.asm_meaning.specs.State.{StartedSegment, State, start, cells_of, state_after_start, state_after_end, local_of, with_records, with_local_record, in_segment, is_too_long, within_length, with_switch_set}
-use Rattle.asm_meaning.specs.Statement.{is_misplaced, begins_segment, label_of, load_name_of, switch_of, constants_of, number_in, alignment_in, distance_in, listed_kind, state_after_align, state_after_org, with_kind, equate, with_equate, equating, equating_global, marking, IsDone, IsPlaced, IsKnown, IsStep}
+use Rattle.asm_meaning.specs.State.{StartedSegment, State, start, cells_of, state_after_start, state_after_end, local_of, with_records, with_local_record, in_segment, within_length, with_switch_set}
+use Rattle.asm_meaning.specs.laws.Steps.{is_too_long, equating_global, IsPlaced, IsKnown}
+use Rattle.asm_meaning.specs.Statement.{is_misplaced, begins_segment, label_of, load_name_of, switch_of, constants_of, number_in, alignment_in, distance_in, listed_kind, state_after_align, state_after_org, with_kind, equate, with_equate, equating, marking, IsDone, IsStep}
 use Rattle.asm_meaning.specs.Object.{AreSteps}
 use Rattle.asm_meaning.specs.LabelLaws.{HasPut, IsWithin, AreWithin, HaveNoEnd, PlaceIsSum}
 use Rattle.asm_meaning.specs.laws.InstructionLaws.{both_ok}

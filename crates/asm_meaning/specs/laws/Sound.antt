@@ -13,7 +13,8 @@ use Rattle.asm_meaning.specs.declared.directives.Class.TheVariants.{Code, Privat
 use Rattle.asm_meaning.specs.declared.directives.Switch.{Switch}
 use Rattle.asm_meaning.specs.declared.directives.Switch.TheVariants.{LongA, LongI, Msb}
 use Rattle.asm_meaning.specs.Pieces.{place_after, length_at, IsPlain}
-use Rattle.asm_meaning.specs.State.{Names, StartedSegment, FinishedSegment, State, start, no_names, cells_of, kind_of, bank_size_of, header_of, state_after_start, ended_of, state_after_end, with_label, local_of, with_records, with_local_record, in_segment, with_switch_set}
+use Rattle.asm_meaning.specs.State.{Names, StartedSegment, FinishedSegment, State, start, no_names, cells_of, kind_of, bank_size_of, header_of, state_after_start, state_after_end, with_label, local_of, with_records, with_local_record, in_segment, with_switch_set}
+use Rattle.asm_meaning.specs.laws.Steps.{ended_of}
 use Rattle.asm_meaning.specs.Constant.{AreSmall}
 use Rattle.asm_meaning.specs.laws.PieceLaws.{ArePlain, all-append, place_after-append}
 use Rattle.asm_meaning.specs.laws.GivenLaws.{IsNameLength}

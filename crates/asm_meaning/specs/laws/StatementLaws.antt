@@ -12,7 +12,8 @@ use Rattle.orca_meaning.specs.laws.OperandLaws.{one_operand}
 use Rattle.orca_meaning.specs.Token.{digits_at, name_at, Found}
 use Rattle.asm_meaning.specs.declared.directives.Directive.TheVariants as directives
 use Rattle.asm_meaning.specs.Answer.{Answer}
-use Rattle.asm_meaning.specs.Elements.{Repeat, Computed, ElementValue, Numbers, Fixed, Text, Asked, Weak, Element, ElementType, Number, Hexadecimal, Binary, Characters, References, WeakReferences, closed_at, text_at, bytes_of_digits, kind_at, AreNames, IsValueAt, after_parenthesis, IsRepeatBy, IsElementAt, AreElements, IsList, list_pieces}
+use Rattle.asm_meaning.specs.Elements.{Repeat, Computed, ElementValue, Numbers, Fixed, Text, Asked, Weak, Element, ElementType, Number, Hexadecimal, Binary, Characters, References, WeakReferences, closed_at, text_at, bytes_of_digits, kind_at, AreNames, IsValueAt, after_parenthesis, IsElementAt, AreElements, IsList, list_pieces}
+use Rattle.asm_meaning.specs.laws.Steps.{IsRepeatBy, IsMoveText, equating_global, spacing, align_state, moving, kinding, IsPlaced, IsKnown}
 use Rattle.asm_meaning.specs.Formulas.{IsFormula, AreFormulas}
 use Rattle.asm_meaning.specs.Instruction.{instruction}
 use Rattle.asm_meaning.specs.declared.directives.Operation.{Operation}
@@ -20,7 +21,7 @@ use Rattle.asm_meaning.specs.declared.directives.Operation.TheVariants.{Instruct
 use Rattle.asm_meaning.specs.Operations.{operation_of}
 use Rattle.asm_meaning.specs.Pieces.{records_of}
 use Rattle.asm_meaning.specs.State.{StartedSegment, State, within_length}
-use Rattle.asm_meaning.specs.Statement.{following_here, IsOperandOf, Good, Bad, Large, constants_of, IsMoveText, IsMove, marking, equating, equating_global, spacing, align_state, moving, kinding, IsDone, IsPlaced, IsKnown, IsStep, label_of, is_misplaced}
+use Rattle.asm_meaning.specs.Statement.{following_here, IsOperandOf, Good, Bad, Large, constants_of, IsMove, marking, equating, IsDone, IsStep, label_of, is_misplaced}
 
 -- ---- found at the start of a text
 

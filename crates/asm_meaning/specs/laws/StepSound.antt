@@ -31,8 +31,9 @@ use Rattle.asm_meaning.specs.Formulas.{IsFormula, formula_of}
 use Rattle.asm_meaning.specs.Instruction.{instruction}
 use Rattle.asm_meaning.specs.Operations.{operation_of}
 use Rattle.asm_meaning.specs.Pieces.{Piece, records_of, IsPlain, ArePlainPieces}
-use Rattle.asm_meaning.specs.State.{StartedSegment, State, cells_of, greatest_length, state_after_start, state_after_end, with_records, with_local_record, in_segment, is_too_long, within_length}
-use Rattle.asm_meaning.specs.Statement.{needs_label, is_taken, free_label, label_of, IsOperandOf, Good, Bad, Large, load_name_of, name_of, switch_of, value_in, constants_in, constants_of, number_in, alignment_in, distance_in, listed_kind, state_after_align, state_after_org, with_kind, equate, value_of, with_equate, equating, equating_outside, equating_global, spacing, align_state, moving, kinding, IsMoveText, IsMove, marking, IsDone, IsPlaced, IsKnown, IsStep, is_misplaced}
+use Rattle.asm_meaning.specs.State.{StartedSegment, State, cells_of, greatest_length, state_after_start, state_after_end, with_records, with_local_record, in_segment, within_length}
+use Rattle.asm_meaning.specs.laws.Steps.{is_too_long, free_label, constants_in, value_of, equating_global, spacing, align_state, moving, kinding, IsMoveText, IsPlaced, IsKnown}
+use Rattle.asm_meaning.specs.Statement.{needs_label, is_taken, label_of, IsOperandOf, Good, Bad, Large, load_name_of, name_of, switch_of, value_in, constants_of, number_in, alignment_in, distance_in, listed_kind, state_after_align, state_after_org, with_kind, equate, with_equate, equating, equating_outside, IsMove, marking, IsDone, IsStep, is_misplaced}
 use Rattle.asm_meaning.specs.laws.AmountLaws.{IsFineAmount, fine_amount, small_worth, is_written}
 use Rattle.asm_meaning.specs.laws.InstructionLaws.{both_ok}
 use Rattle.asm_meaning.specs.laws.PieceLaws.{ArePlain, all-append, records_plain}
@@ -282,7 +283,7 @@ same_number true m n e = same_okay m n e
 same_number false m n e = absurd cc
 
 alignment_same : (state : State) (m n : ℕ) → alignment_in state m ≡ Ok n → m ≡ n
-alignment_same state m n e = same_number (Rattle.asm_meaning.specs.Statement.is_alignment state.segment m) m n e
+alignment_same state m n e = same_number (Rattle.asm_meaning.specs.laws.Steps.is_alignment state.segment m) m n e
 
 aligned_sound : (state : State) (o : Option StartedSegment) (label : List ℕ) (n : ℕ) → IsSound state → IsLabelText label → n < 2 ^ 32 → IsSound (state_after_align state o label n)
 aligned_sound state None label n sound is small = record { outside = sound.outside; org = sound.org; align = small; front = sound.front; segment = sound.segment; ended = sound.ended }

@@ -24,7 +24,8 @@ use Rattle.asm_meaning.specs.Instruction.{instruction}
 use Rattle.asm_meaning.specs.Operations.{operation_of}
 use Rattle.asm_meaning.specs.Pieces.{records_of}
 use Rattle.asm_meaning.specs.State.{StartedSegment, State, start, state_after_end, within_length}
-use Rattle.asm_meaning.specs.Statement.{following_here, is_misplaced, label_of, IsOperandOf, Good, Bad, Large, name_of, constants_of, equating, equating_global, spacing, align_state, moving, kinding, IsMoveText, IsMove, marking, beginning, turning, entering, IsDone, IsPlaced, IsKnown, IsStep}
+use Rattle.asm_meaning.specs.Statement.{following_here, is_misplaced, label_of, IsOperandOf, Good, Bad, Large, name_of, constants_of, equating, IsMove, marking, IsDone, IsStep}
+use Rattle.asm_meaning.specs.laws.Steps.{equating_global, spacing, align_state, moving, kinding, IsMoveText, beginning, turning, entering, IsPlaced, IsKnown}
 use Rattle.asm_meaning.specs.Object.{object_text, most_bytes, AreSteps, HasLines, InExpansion, InLine, InSegment, InLength}
 use Rattle.asm_meaning.specs.ObjectLaws.{NoneUnanswered}
 

@@ -16,7 +16,8 @@ use Rattle.asm_meaning.specs.Object.{AreSteps}
 use Rattle.asm_meaning.specs.Pieces.{place_after}
 use Rattle.asm_meaning.specs.laws.PieceLaws.{place_after-append, place_after-le}
 use Rattle.asm_meaning.specs.State.{State, StartedSegment, Names, greatest_length}
-use Rattle.asm_meaning.specs.Statement.{IsStep, constants_of, constants_in, value_in}
+use Rattle.asm_meaning.specs.Statement.{IsStep, constants_of, value_in}
+use Rattle.asm_meaning.specs.laws.Steps.{constants_in}
 use Rattle.list_meaning.specs.Listed.{ListedStatement, NextAlignIs, NextOrg, StartIs, KindIs, SwitchIs, Ds, Aligns, OrgIs, UsingIs, StrongIs, Labels, Equates, Instructs, Bytes, WeakIs, FormulaIs, EndIs, said_text}
 use Rattle.list_meaning.specs.Listing.{is_among}
 use Rattle.list_meaning.specs.Given.{records_said, name_said, names_said, widths_said, header_said, Leaves, IsLeft}

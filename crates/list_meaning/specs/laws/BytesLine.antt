@@ -16,7 +16,8 @@ use Rattle.orca_meaning.specs.Line.{line_of}
 use Rattle.orca_meaning.specs.Token as tokens
 use Rattle.asm_meaning.specs.Constant.{Constants}
 use Rattle.asm_meaning.specs.Elements as elements
-use Rattle.asm_meaning.specs.Elements.{bytes_of_digits, bytes_of_group_digits, packed_digits, without_spaces, list_pieces}
+use Rattle.asm_meaning.specs.Elements.{bytes_of_digits, bytes_of_group_digits, packed_digits, list_pieces}
+use Rattle.asm_meaning.specs.laws.Steps.{without_spaces}
 use Rattle.asm_meaning.specs.Pieces.{records_of, records_after}
 use Rattle.asm_meaning.specs.State.{State, StartedSegment, cells_of, greatest_length, with_local_record, in_segment}
 use Rattle.asm_meaning.specs.Statement.{IsStep, constants_of}

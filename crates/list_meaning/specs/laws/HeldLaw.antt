@@ -1,9 +1,11 @@
 -- The law on one line, for an instruction with a name: the byte that is held back, and its record.
-use Rattle.std.proofs.Common.{◌≡◌, ℕ, ◌^◌, ◌≤◌, Bool, true, false, cond, eqb, List, [], ◌∷◌, ◌++◌, Some, None, Ok, refl, sym, ap, ◌∙◌, arith}
+use Rattle.std.proofs.Common.{◌≡◌, ℕ, ◌^◌, ◌≤◌, Bool, true, false, cond, eqb, List, [], ◌∷◌, ◌++◌, Option, Some, None, Ok, refl, sym, ap, ◌∙◌, arith}
 use Rattle.std.specs.Prelude.{◌*◌, codes, ◌==◌, ◌||◌, not, slice_get, slice_index}
 use Rattle.std.specs.List.{AllByRecursion}
 use Rattle.std.proofs.lemmas.Bool.{lt-leb, and_parts, eqb-true}
 use Rattle.omf_format.specs.Field.{◌>>=◌}
+use Rattle.omf_format.specs.Expression as expression
+use Rattle.omf_format.specs.Expression.{Leaf, Binary}
 use Rattle.orca_meaning.specs.declared.forms.OperandUse.{OperandUse}
 use Rattle.orca_meaning.specs.declared.forms.OperandUse.TheVariants as uses
 use Rattle.orca_meaning.specs.declared.mnemonics.Mnemonic.{Mnemonic}
@@ -19,7 +21,8 @@ use Rattle.asm_meaning.specs.declared.directives.Operation.TheVariants.{Instruct
 use Rattle.asm_meaning.specs.Constant as constant
 use Rattle.asm_meaning.specs.Constant.{Constants, Written, amount}
 use Rattle.asm_meaning.specs.Instruction as instructions
-use Rattle.asm_meaning.specs.Instruction.{Widths, instruction, kind_of, mode_of_tree, with_amount}
+use Rattle.asm_meaning.specs.Instruction.{Widths, instruction, kind_of, with_amount}
+use Rattle.asm_meaning.specs.laws.Steps.{amount_by, mode_of_tree, number_or, number_or_open}
 use Rattle.asm_meaning.specs.Pieces.{records_of, records_after}
 use Rattle.asm_meaning.specs.State.{State, StartedSegment, cells_of, greatest_length, with_local_record, in_segment}
 use Rattle.asm_meaning.specs.Statement.{IsStep, IsDone, IsOperandOf, Good, constants_of}
@@ -29,7 +32,8 @@ use Rattle.omf_base.specs.Digits.{hexadecimal}
 use Rattle.list_meaning.specs.laws.Numbers.{hexadecimal_is}
 use Rattle.list_meaning.specs.Listed.{number_text}
 use Rattle.list_meaning.specs.Listed as listed
-use Rattle.list_meaning.specs.Listed.{Wanted, None', Number, Banks, Label, Moved, Instructs, said_text, spelling_of, wanted_text, operand_text}
+use Rattle.list_meaning.specs.Listed.{Wanted, None', Number, Banks, Label, Moved, Instructs, said_text, spelling_of, wanted_text}
+use Rattle.list_meaning.specs.laws.Steps.{operand_text, sign_text}
 use Rattle.list_meaning.specs.laws.FormulaLaw.{IsPlainName}
 use Rattle.list_meaning.specs.laws.Spelled.{spelled}
 use Rattle.list_meaning.specs.laws.ModeLaw.{prefix_in, one_mode, opcode_back, used_is, is_used, is_never}
@@ -121,7 +125,7 @@ name_first (Banks source destination) rest has = absurd has
 name_first (Label []) rest has = absurd has
 name_first (Label (byte ∷ name)) rest has = no_semicolon ((byte ∷ name) ++ rest) byte (name ++ rest) refl has.0
 name_first (Moved [] adds n) rest has = absurd has.0
-name_first (Moved (byte ∷ name) adds n) rest has = no_semicolon (wanted_text (Moved (byte ∷ name) adds n) ++ rest) byte ((name ++ (listed.sign_text adds ++ number_text 8 n)) ++ rest) refl has.0.0
+name_first (Moved (byte ∷ name) adds n) rest has = no_semicolon (wanted_text (Moved (byte ∷ name) adds n) ++ rest) byte ((name ++ (sign_text adds ++ number_text 8 n)) ++ rest) refl has.0.0
 
 pub first_is : (way : Mode) (w : Wanted) → TakesName way → HasName w → (slice_index (operand_text way w) 0 == 0x3B) ≡ false
 unfolding listed.shape_of
@@ -172,14 +176,25 @@ IsUnknown constants (Banks source destination) = ⊥
 IsUnknown constants (Label name) = constants name ≡ None
 IsUnknown constants (Moved name adds n) = constants name ≡ None
 
+-- the amount of a name without a value, alone and with a number
+by_name : (name : List ℕ) (o : Option ℕ) → o ≡ None → amount_by (Leaf (number_or (expression.Named 0x83 name) o)) (number_or_open o) ≡ Ok (Written (Leaf (expression.Named 0x83 name)))
+by_name name None is = refl
+by_name name (Some n) is = absurd cc
+
+by_moved : (code : ℕ) (name : List ℕ) (n : ℕ) (o : Option ℕ) → o ≡ None
+    → amount_by (Binary code (Leaf (number_or (expression.Named 0x83 name) o)) (Leaf (expression.Constant n))) (constant.worth_of_two code (number_or_open o) (constant.Number n))
+    ≡ Ok (Written (Binary code (Leaf (expression.Named 0x83 name)) (Leaf (expression.Constant n))))
+by_moved code name n None is = refl
+by_moved code name n (Some m) is = absurd cc
+
 stays : (constants : Constants) (w : Wanted) → IsUnknown constants w → amount constants (tree_of w) ≡ Ok (Written (tree_of w))
 unfolding amount constant.known_value
 stays constants None' is = absurd is
 stays constants (Number bytes n) is = absurd is
 stays constants (Banks source destination) is = absurd is
-stays constants (Label name) is = rw is refl
-stays constants (Moved name true n) is = rw is refl
-stays constants (Moved name false n) is = rw is refl
+stays constants (Label name) is = by_name name (constants name) is
+stays constants (Moved name true n) is = by_moved 0x01 name n (constants name) is
+stays constants (Moved name false n) is = by_moved 0x02 name n (constants name) is
 
 same_mode : (way : Mode) → mode_of_tree way [] ≡ way
 same_mode way = by (instructions.is_address 2 (kind_of way))
@@ -211,7 +226,7 @@ held_gives : (constants : Constants) (widths : Widths) (k : ℕ) (m : Mnemonic) 
     → (instruction constants widths m (meaning_in way w) >>= λ pieces. Ok (records_of pieces)) ≡ Ok (held_records widths k m way w)
 unfolding instruction with_amount records_after
 held_gives constants widths k m way w is has unknown =
-    rw (one_mode k m way is, stays constants w unknown, same_mode way, no_shift way, unplaced w has, opcode_back k m way is) refl
+    rw (instruction, one_mode k m way is, stays constants w unknown, same_mode way, no_shift way, unplaced w has, opcode_back k m way is) refl
 
 -- ---- the line
 

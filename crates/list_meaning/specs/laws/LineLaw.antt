@@ -14,7 +14,7 @@ use Rattle.orca_meaning.specs.Characters.{is_blank}
 use Rattle.orca_meaning.specs.Formula.{MeansAt}
 use Rattle.orca_meaning.specs.declared.operators.Operands.TheVariants.{Labels}
 use Rattle.std.specs.Char.{digit_value}
-use Rattle.orca_meaning.specs.Line.{Line, line_of}
+use Rattle.orca_meaning.specs.Line.{Line, line_of, part}
 use Rattle.asm_meaning.specs.declared.directives.Directive.TheVariants as directives
 use Rattle.asm_meaning.specs.declared.directives.Operation.{Operation}
 use Rattle.asm_meaning.specs.declared.directives.Operation.TheVariants.{Instruct, Direct}
@@ -24,10 +24,11 @@ use Rattle.asm_meaning.specs.Formulas as formulas
 use Rattle.asm_meaning.specs.Formulas.{IsFormula}
 use Rattle.asm_meaning.specs.Operations as asm_operations
 use Rattle.asm_meaning.specs.Operations.{operation_of}
-use Rattle.asm_meaning.specs.State.{State, StartedSegment, cells_of, greatest_length, with_local_record, in_segment, is_too_long, within_length}
+use Rattle.asm_meaning.specs.State.{State, StartedSegment, cells_of, greatest_length, with_local_record, in_segment, within_length}
+use Rattle.asm_meaning.specs.laws.Steps.{is_too_long, IsKnown, IsPlaced}
 use Rattle.asm_meaning.specs.Statement as statement
 use Rattle.std.specs.Option.{option_map}
-use Rattle.asm_meaning.specs.Statement.{IsDone, begins_segment, label_of, IsStep, IsPlaced, is_misplaced, number_in}
+use Rattle.asm_meaning.specs.Statement.{IsDone, begins_segment, label_of, IsStep, is_misplaced, number_in}
 use Rattle.list_meaning.specs.laws.LineText.{IsLabelFront, IsOperation, HasNoBlank, IsTaken, laid}
 use Rattle.list_meaning.specs.Listed.{statement_text}
 use Rattle.list_meaning.specs.laws.Numbers.{number_means, hexadecimal_is}
@@ -56,7 +57,10 @@ pub step_of : (state : State) (number : ℕ) (label operation operand : List ℕ
     → IsStep state (line_of 0 number (statement_text label operation operand)) answer
 step_of state number label operation operand op answer front named ink taken is placed =
     let fields = laid label operation operand front named ink taken in
-    rw (fields.label_is, fields.operation_is, fields.operand_is, is) placed
+    let line : Line = line_of 0 number (statement_text label operation operand) in
+    let known : IsKnown state line (operation_of (part line.text line.fields.operation)) (part line.text line.fields.label) (part line.text line.fields.operand) answer =
+        rw (fields.label_is, fields.operation_is, fields.operand_is, is) placed in
+    known
 
 -- a statement in the open segment, which isn't too long after it
 pub fits_in : (state : State) (s : StartedSegment) (change : StartedSegment → StartedSegment) → state.segment ≡ Some s → cells_of (change s) ≤ greatest_length (change s).class
@@ -139,7 +143,7 @@ missing m = Good (record { form = forms.Nothing; prefix = Bare; trees = [] }) (r
 implied_gives : (constants : Constants) (widths : Widths) (m : Mnemonic) → has_mode m Implied ≡ true
     → (instruction constants widths m no_operand >>= λ pieces. Ok (records_of pieces)) ≡ Ok (Const (opcode_in m Implied ∷ []) ∷ [])
 unfolding no_operand instruction modes_of_form modes_of kind_of without_amount operand_bytes length_of records_after
-implied_gives constants widths m has = rw has refl
+implied_gives constants widths m has = rw (instruction, has) refl
 
 pub implied_step : (state : State) (s : StartedSegment) (number : ℕ) (m : Mnemonic) → state.segment ≡ Some s → has_mode m Implied ≡ true
     → cells_of (with_local_record [] 0x4D (Const (opcode_in m Implied ∷ []) ∷ []) s) ≤ greatest_length s.class

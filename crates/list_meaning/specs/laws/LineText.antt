@@ -8,9 +8,10 @@ use Rattle.orca_meaning.specs.declared.forms.OperandUse.TheVariants.{Never, Accu
 use Rattle.orca_meaning.specs.Characters.{is_blank}
 use Rattle.orca_meaning.specs.Operation.{operation_use}
 use Rattle.orca_meaning.specs.Quotes.{outside_from, quote_following}
-use Rattle.list_meaning.specs.Listed.{with_leading_space, statement_text}
+use Rattle.list_meaning.specs.Listed.{statement_text}
 use Rattle.orca_meaning.specs.Line.{LineFields, is_comment, next_blank, next_ink, three_fields, operand_span, fields_of, part, span}
 use Rattle.orca_meaning.specs.laws.Steps.{is_ink, next_outside}
+use Rattle.list_meaning.specs.laws.Steps.{with_leading_space}
 
 -- no blank is among the bytes
 abbrev pub HasNoBlank : List ℕ → Type 0

@@ -27,16 +27,17 @@ use Rattle.asm_meaning.specs.declared.directives.Class.{Class}
 use Rattle.omf_base.specs.Digits.{hexadecimal}
 use Rattle.asm_meaning.specs.Operations.{operation_of}
 use Rattle.asm_meaning.specs.Pieces as pieces
-use Rattle.asm_meaning.specs.State.{State, StartedSegment, cells_of, greatest_length, with_local_record, with_records, in_segment, is_too_long, within_length, with_switch_set, state_after_end, state_after_start}
-use Rattle.asm_meaning.specs.Statement.{is_some_text, following_here, with_equate, equating, equating_global, constants_of, IsStep, IsDone, IsPlaced, is_misplaced, begins_segment, label_of, is_taken, load_name_of, is_alignment, switch_of, distance_in, IsMove, state_after_align, state_after_org, with_kind, listed_kind, alignment_in}
+use Rattle.asm_meaning.specs.State.{State, StartedSegment, cells_of, greatest_length, with_local_record, with_records, in_segment, within_length, with_switch_set, state_after_end, state_after_start}
+use Rattle.asm_meaning.specs.laws.Steps.{is_too_long, equating_global, IsPlaced, is_alignment}
+use Rattle.asm_meaning.specs.Statement.{following_here, with_equate, equating, constants_of, IsStep, IsDone, is_misplaced, begins_segment, label_of, is_taken, load_name_of, switch_of, distance_in, IsMove, state_after_align, state_after_org, with_kind, listed_kind, alignment_in}
 use Rattle.list_meaning.specs.laws.LineText.{IsLabelFront, HasNoBlank}
 use Rattle.list_meaning.specs.Listed.{statement_text}
 use Rattle.list_meaning.specs.laws.FormulaLaw.{IsPlainName}
 use Rattle.list_meaning.specs.laws.HeldLaw.{name_ink}
 use Rattle.list_meaning.specs.laws.LineLaw.{step_of, inside, number_ink, number_formula, number_there}
 use Rattle.list_meaning.specs.Listed.{number_text}
-use Rattle.list_meaning.specs.Listed as listed
 use Rattle.list_meaning.specs.Listed.{StartIs, Equates, Labels, UsingIs, SwitchIs, KindIs, Aligns, OrgIs, EndIs, NextAlignIs, NextOrg, said_text}
+use Rattle.list_meaning.specs.laws.Steps.{on_text}
 
 -- ---- names
 
@@ -113,7 +114,7 @@ using_step state s number name here is room =
 
 -- ---- widths
 
-switch_ink : (on : Bool) → HasNoBlank (listed.on_text on)
+switch_ink : (on : Bool) → HasNoBlank (on_text on)
 switch_ink true = (refl, (refl, tt))
 switch_ink false = (refl, (refl, (refl, tt)))
 
@@ -126,11 +127,11 @@ turned_fits Msb on state fits = rw fits refl
 unchanged_fits : (state : State) (s : StartedSegment) → state.segment ≡ Some s → cells_of (with_local_record [] 0x4E [] s) ≤ greatest_length s.class → is_too_long (in_segment (with_local_record [] 0x4E []) state).segment ≡ false
 unchanged_fits state s here room = ap (λ (o : Option StartedSegment). is_too_long (option_map (with_local_record [] 0x4E []) o)) here ∙ le-ltb (greatest_length s.class) (cells_of (with_local_record [] 0x4E [] s)) room
 
-switch_is : (on : Bool) → switch_of (listed.on_text on) ≡ Ok on
+switch_is : (on : Bool) → switch_of (on_text on) ≡ Ok on
 switch_is true = refl
 switch_is false = refl
 
-turns_done : (state : State) (line : Line) (switch : Switch) (on : Bool) → IsDone state line (Direct (directives.Turn switch)) (label_of state (Direct (directives.Turn switch)) []) (listed.on_text on) (Ok (with_switch_set switch on (in_segment (with_local_record [] 0x4E []) state)))
+turns_done : (state : State) (line : Line) (switch : Switch) (on : Bool) → IsDone state line (Direct (directives.Turn switch)) (label_of state (Direct (directives.Turn switch)) []) (on_text on) (Ok (with_switch_set switch on (in_segment (with_local_record [] 0x4E []) state)))
 unfolding IsDone
 turns_done state line switch on = rw (switch_is on) refl
 
@@ -138,17 +139,17 @@ pub turns_step : (state : State) (s : StartedSegment) (number : ℕ) (switch : S
     → IsStep state (line_of 0 number (said_text (SwitchIs switch on))) (Ok (with_switch_set switch on (in_segment (with_local_record [] 0x4E []) state)))
 unfolding said_text IsDone operation_of operations.operation_use operations.mnemonic_of operations.value_of_spelling operations.mnemonics operations.without_operand asm_operations.directives asm_operations.ignored_directives
 turns_step state s number LongA on here room =
-    step_of state number [] (codes "LONGA") (listed.on_text on) (Direct (directives.Turn LongA)) (Ok (with_switch_set LongA on (in_segment (with_local_record [] 0x4E []) state))) tt (refl, (refl, (refl, (refl, (refl, tt))))) (switch_ink on) tt refl
-    (inside_to state (with_switch_set LongA on (in_segment (with_local_record [] 0x4E []) state)) s (line_of 0 number (statement_text [] (codes "LONGA") (listed.on_text on))) (Direct (directives.Turn LongA)) [] (listed.on_text on) here refl
-    (turns_done state (line_of 0 number (statement_text [] (codes "LONGA") (listed.on_text on))) LongA on) (turned_fits LongA on (in_segment (with_local_record [] 0x4E []) state) (unchanged_fits state s here room)))
+    step_of state number [] (codes "LONGA") (on_text on) (Direct (directives.Turn LongA)) (Ok (with_switch_set LongA on (in_segment (with_local_record [] 0x4E []) state))) tt (refl, (refl, (refl, (refl, (refl, tt))))) (switch_ink on) tt refl
+    (inside_to state (with_switch_set LongA on (in_segment (with_local_record [] 0x4E []) state)) s (line_of 0 number (statement_text [] (codes "LONGA") (on_text on))) (Direct (directives.Turn LongA)) [] (on_text on) here refl
+    (turns_done state (line_of 0 number (statement_text [] (codes "LONGA") (on_text on))) LongA on) (turned_fits LongA on (in_segment (with_local_record [] 0x4E []) state) (unchanged_fits state s here room)))
 turns_step state s number LongI on here room =
-    step_of state number [] (codes "LONGI") (listed.on_text on) (Direct (directives.Turn LongI)) (Ok (with_switch_set LongI on (in_segment (with_local_record [] 0x4E []) state))) tt (refl, (refl, (refl, (refl, (refl, tt))))) (switch_ink on) tt refl
-    (inside_to state (with_switch_set LongI on (in_segment (with_local_record [] 0x4E []) state)) s (line_of 0 number (statement_text [] (codes "LONGI") (listed.on_text on))) (Direct (directives.Turn LongI)) [] (listed.on_text on) here refl
-    (turns_done state (line_of 0 number (statement_text [] (codes "LONGI") (listed.on_text on))) LongI on) (turned_fits LongI on (in_segment (with_local_record [] 0x4E []) state) (unchanged_fits state s here room)))
+    step_of state number [] (codes "LONGI") (on_text on) (Direct (directives.Turn LongI)) (Ok (with_switch_set LongI on (in_segment (with_local_record [] 0x4E []) state))) tt (refl, (refl, (refl, (refl, (refl, tt))))) (switch_ink on) tt refl
+    (inside_to state (with_switch_set LongI on (in_segment (with_local_record [] 0x4E []) state)) s (line_of 0 number (statement_text [] (codes "LONGI") (on_text on))) (Direct (directives.Turn LongI)) [] (on_text on) here refl
+    (turns_done state (line_of 0 number (statement_text [] (codes "LONGI") (on_text on))) LongI on) (turned_fits LongI on (in_segment (with_local_record [] 0x4E []) state) (unchanged_fits state s here room)))
 turns_step state s number Msb on here room =
-    step_of state number [] (codes "MSB") (listed.on_text on) (Direct (directives.Turn Msb)) (Ok (with_switch_set Msb on (in_segment (with_local_record [] 0x4E []) state))) tt (refl, (refl, (refl, tt))) (switch_ink on) tt refl
-    (inside_to state (with_switch_set Msb on (in_segment (with_local_record [] 0x4E []) state)) s (line_of 0 number (statement_text [] (codes "MSB") (listed.on_text on))) (Direct (directives.Turn Msb)) [] (listed.on_text on) here refl
-    (turns_done state (line_of 0 number (statement_text [] (codes "MSB") (listed.on_text on))) Msb on) (turned_fits Msb on (in_segment (with_local_record [] 0x4E []) state) (unchanged_fits state s here room)))
+    step_of state number [] (codes "MSB") (on_text on) (Direct (directives.Turn Msb)) (Ok (with_switch_set Msb on (in_segment (with_local_record [] 0x4E []) state))) tt (refl, (refl, (refl, tt))) (switch_ink on) tt refl
+    (inside_to state (with_switch_set Msb on (in_segment (with_local_record [] 0x4E []) state)) s (line_of 0 number (statement_text [] (codes "MSB") (on_text on))) (Direct (directives.Turn Msb)) [] (on_text on) here refl
+    (turns_done state (line_of 0 number (statement_text [] (codes "MSB") (on_text on))) Msb on) (turned_fits Msb on (in_segment (with_local_record [] 0x4E []) state) (unchanged_fits state s here room)))
 
 -- ---- END
 
@@ -219,7 +220,7 @@ next_align_step state number n here low power =
     (outside_to state (record state { align = n }) (line_of 0 number (statement_text [] (codes "ALIGN") (number_text 8 n))) (Direct directives.Align) [] (number_text 8 n) here refl
     (Some (Leaf (expression.Constant n)), number_formula 8 n fits, rw (number_there state n fits, allowed, same) refl) short)
 
-no_here : (text : List ℕ) → is_some_text (following_here (0x24 ∷ text)) ≡ false
+no_here : (text : List ℕ) → is_some (following_here (0x24 ∷ text)) ≡ false
 no_here [] = refl
 no_here (byte ∷ text) = refl
 

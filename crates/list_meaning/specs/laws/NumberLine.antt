@@ -36,7 +36,8 @@ use Rattle.asm_meaning.specs.Statement.{IsStep, IsDone, IsOperandOf, Good, const
 use Rattle.list_meaning.specs.laws.LineText.{HasNoBlank, IsTaken}
 use Rattle.list_meaning.specs.Listed.{statement_text}
 use Rattle.list_meaning.specs.Listed as listed
-use Rattle.list_meaning.specs.Listed.{Number, Instructs, said_text, spelling_of, operand_text}
+use Rattle.list_meaning.specs.Listed.{Number, Instructs, said_text, spelling_of}
+use Rattle.list_meaning.specs.laws.Steps.{operand_text}
 use Rattle.list_meaning.specs.laws.Spelled.{spelled}
 use Rattle.list_meaning.specs.laws.ModeLaw.{accumulates, moves_alone, prefix_in, one_mode, opcode_back, used_is, is_never}
 use Rattle.list_meaning.specs.laws.OperandLaw.{TakesName, meaning_in}
@@ -145,7 +146,7 @@ unfolding instruction with_amount records_after
 number_gives constants w k m way n is takes fits =
     let same : n / 2 ^ 0 ≡ n = omega arith in
     let few : leb (length (k ∷ little_bytes (operand_bytes w m way) n)) 223 ≡ true = le-leb (length (k ∷ little_bytes (operand_bytes w m way) n)) 223 (omega (arith, length-bytes_low_first 0 (operand_bytes w m way) n, few_bytes w m way)) in
-    rw (one_mode k m way is, known constants n, holds_it w m way n takes fits, no_distance way takes, no_shift way, opcode_back k m way is, same, few) refl
+    rw (instruction, instructions.mode_of_number, one_mode k m way is, known constants n, holds_it w m way n takes fits, no_distance way takes, no_shift way, opcode_back k m way is, same, few) refl
 
 pub number_step : (state : State) (s : StartedSegment) (number k : ℕ) (m : Mnemonic) (way : Mode) (n : ℕ) → state.segment ≡ Some s → slice_get matrix k ≡ Some (m, way) → TakesNumber way → n < 2 ^ 32
     → n < 256 ^ operand_bytes state.widths m way → cells_of (with_local_record [] 0x4D (number_records state.widths k m way n) s) ≤ greatest_length s.class
@@ -173,7 +174,7 @@ is_gathered_operand m means = Good (record { form = forms.Accumulator; prefix = 
 gathered_gives : (constants : Constants) (w : Widths) (k : ℕ) (m : Mnemonic) → slice_get matrix k ≡ Some (m, modes.Accumulator)
     → (instruction constants w m gathered >>= λ pieces. Ok (records_of pieces)) ≡ Ok (Const (k ∷ []) ∷ [])
 unfolding gathered instruction without_amount operand_bytes lengths.length_of records_after
-gathered_gives constants w k m is = rw (one_mode k m modes.Accumulator is, opcode_back k m modes.Accumulator is) refl
+gathered_gives constants w k m is = rw (instruction, one_mode k m modes.Accumulator is, opcode_back k m modes.Accumulator is) refl
 
 taken_a : (way : OperandUse) → is_never way ≡ false → IsTaken way (codes "A")
 taken_a way some = taken_as way (codes "A") some refl
@@ -230,7 +231,7 @@ banks_gives : (constants : Constants) (w : Widths) (k : ℕ) (m : Mnemonic) (sou
     → (instruction constants w m (banks_meaning source destination) >>= λ pieces. Ok (records_of pieces)) ≡ Ok (Const (k ∷ destination ∷ source ∷ []) ∷ [])
 unfolding banks_meaning instruction records_after
 banks_gives constants w k m source destination is low high =
-    rw (one_mode k m modes.Move is, known constants source, known constants destination, lt-ltb source 256 low, lt-ltb destination 256 high, opcode_back k m modes.Move is) refl
+    rw (instruction, one_mode k m modes.Move is, known constants source, known constants destination, lt-ltb source 256 low, lt-ltb destination 256 high, opcode_back k m modes.Move is) refl
 
 pub banks_step : (state : State) (s : StartedSegment) (number k : ℕ) (m : Mnemonic) (source destination : ℕ) → state.segment ≡ Some s → slice_get matrix k ≡ Some (m, modes.Move) → source < 256 → destination < 256
     → cells_of (with_local_record [] 0x4D (Const (k ∷ destination ∷ source ∷ []) ∷ []) s) ≤ greatest_length s.class

@@ -25,7 +25,8 @@ use Rattle.list_meaning.specs.laws.Numbers.{number_means, HasNoDigit}
 use Rattle.list_meaning.specs.laws.FormulaLaw.{no_digit, IsPlainName, EndsName, CanWrite, formula_read}
 use Rattle.list_meaning.specs.Given.{tree_of}
 use Rattle.list_meaning.specs.Listed as listed
-use Rattle.list_meaning.specs.Listed.{Wanted, None', Number, Banks, Label, Moved, wanted_text, operand_text, formula_text}
+use Rattle.list_meaning.specs.Listed.{Wanted, None', Number, Banks, Label, Moved, wanted_text, formula_text}
+use Rattle.list_meaning.specs.laws.Steps.{operand_text, sign_text}
 use Rattle.list_meaning.specs.laws.ModeLaw.{form_in, prefix_in}
 
 -- ---- an operand with a name
@@ -90,7 +91,7 @@ begins (Banks source destination) rest has = absurd has
 begins (Label []) rest has = absurd has
 begins (Label (byte ∷ name)) rest has = record { byte = byte; following = name ++ rest; whole = refl; start = starts_name byte has.0 }
 begins (Moved [] adds n) rest has = absurd has.0
-begins (Moved (byte ∷ name) adds n) rest has = record { byte = byte; following = (name ++ (listed.sign_text adds ++ listed.number_text 8 n)) ++ rest; whole = refl; start = starts_name byte has.0.0 }
+begins (Moved (byte ∷ name) adds n) rest has = record { byte = byte; following = (name ++ (sign_text adds ++ listed.number_text 8 n)) ++ rest; whole = refl; start = starts_name byte has.0.0 }
 
 no_prefix : (o : Opening) (text : List ℕ) → BeginsName text → prefix_of o text ≡ Bare
 no_prefix o text is = ap (prefix_of o) is.whole ∙ by o

@@ -1,6 +1,6 @@
 -- The lines of a record are allowed after those before it, and represent the same as the record.
 use Rattle.std.proofs.Common.{◌≡◌, ℕ, ◌^◌, ◌<◌, ◌≤◌, Bool, true, false, cond, eqb, List, [], ◌∷◌, ◌++◌, Option, Some, None, refl, sym, ap, subst, ◌∙◌, arith, append_assoc}
-use Rattle.std.specs.Prelude.{◌&&◌, ◌||◌, ◌==◌, not, nat_le, slice_get, IsTrue}
+use Rattle.std.specs.Prelude.{◌&&◌, ◌||◌, ◌==◌, not, nat_le, slice_get, IsTrue, is_some}
 use Rattle.std.specs.Int.{is_power_of_two}
 use Rattle.std.specs.List.{AllByRecursion, list_all, list_any, flat_map}
 use Rattle.std.proofs.lemmas.Bool.{eqb-true, leb-true, and_parts, not-true}
@@ -28,7 +28,8 @@ use Rattle.asm_meaning.specs.laws.PieceLaws.{all-append}
 use Rattle.list_meaning.specs.Listed as listed
 use Rattle.list_meaning.specs.Listed.{ListedStatement, Aligns, OrgIs, Ds, UsingIs, StrongIs, Labels, Equates, Instructs, WeakIs, FormulaIs, Wanted, Moved}
 use Rattle.list_meaning.specs.Listing as listing
-use Rattle.list_meaning.specs.Listing.{PendingRun, Given, instruction_of_opcode, said_rest, widths_rest, is_listable, is_among, simple_of, weak_of, record_by, is_record, with_run_written, then_said, with_name, after_byte, split_last, dc_of_formula, held_back, is_held, formula_given, formula_listable, term_listable, term_may_stand, is_open, is_some_name, is_some_wanted, both_long, follows_opcode, are_short, if_short, number_of, equate_given, on_tree, given_by}
+use Rattle.list_meaning.specs.Listing.{PendingRun, Given, instruction_of_opcode, said_rest, widths_rest, is_listable, is_among, simple_of, weak_of, record_by, is_record, with_run_written, then_said, with_name, split_last, dc_of_formula, formula_given, formula_listable, term_listable, term_may_stand, is_open, both_long, if_short, number_of, equate_given, given_by}
+use Rattle.list_meaning.specs.laws.Steps.{after_byte, held_back, follows_opcode, are_short, on_tree, expr_listable, is_held}
 use Rattle.list_meaning.specs.Flat.{parts_from, respelled, text_or}
 use Rattle.list_meaning.specs.Given.{records_said, name_said, widths_said, code_of, tree_of}
 use Rattle.list_meaning.specs.laws.BytesLine.{AreBytes}
@@ -292,7 +293,7 @@ held_put f equates b code count n expr t found w low formed shallow there names 
 
 -- DC A or DC S
 apart_put : (f : HeaderFields) (equates : List (List ℕ)) (b : PendingRun) (code count n : ℕ) (expr : List ℕ) (t : Tree) → f.lab_len ≤ 255 → IsTree f.lab_len t → depth t ≤ 64 → tree_in f.lab_len expr ≡ Some t
-    → IsCount count → eqb code 0xEB ≡ true → n ≡ 0 → list_all (term_listable equates) (terms_of t) ≡ true → listing.expr_listable count t ≡ true → AreBytes b.run
+    → IsCount count → eqb code 0xEB ≡ true → n ≡ 0 → list_all (term_listable equates) (terms_of t) ≡ true → expr_listable count t ≡ true → AreBytes b.run
     → IsPut f equates b (records.Formula code count n expr) (then_said (dc_of_formula count t (weak_of t) ∷ []) (with_run_written b))
 unfolding weak_of
 apart_put f equates b code count n expr t low formed shallow there counted is_expr none names may are = by (weak_of t) refl may
@@ -303,7 +304,7 @@ apart_put f equates b code count n expr t low formed shallow there counted is_ex
         (like_formula f.lab_len 0xEB count 0 expr t low formed shallow there))
 
     by : (o : Option (List ℕ)) → weak_of t ≡ o
-        → cond (is_some_name o) (eqb count 2) (list_all term_may_stand (terms_of t) && list_any is_open (terms_of t)) ≡ true
+        → cond (is_some o) (eqb count 2) (list_all term_may_stand (terms_of t) && list_any is_open (terms_of t)) ≡ true
         → IsPut f equates b (records.Formula code count n expr) (then_said (dc_of_formula count t o ∷ []) (with_run_written b))
     by None weak may =
         let both = and_parts (list_all term_may_stand (terms_of t)) (list_any is_open (terms_of t)) may in
@@ -337,15 +338,15 @@ formula_put : (f : HeaderFields) (equates : List (List ℕ)) (b : PendingRun) (c
 unfolding formula_listable formula_given
 formula_put f equates b code count n expr t low formed shallow there counted distance are may =
     let both = and_parts (list_all (term_listable equates) (terms_of t))
-    (cond (eqb code 0xEB) (listing.expr_listable count t) (is_some_wanted (simple_of t) && follows_opcode code count n (split_last b.run))) may in
+    (cond (eqb code 0xEB) (expr_listable count t) (is_some (simple_of t) && follows_opcode code count n (split_last b.run))) may in
     by (eqb code 0xEB) (split_last b.run) (simple_of t) refl refl refl both.0 both.1
   where
-    aside : eqb code 0xEB ≡ true → list_all (term_listable equates) (terms_of t) ≡ true → listing.expr_listable count t ≡ true
+    aside : eqb code 0xEB ≡ true → list_all (term_listable equates) (terms_of t) ≡ true → expr_listable count t ≡ true
         → IsPut f equates b (records.Formula code count n expr) (then_said (dc_of_formula count t (weak_of t) ∷ []) (with_run_written b))
     aside e names may = apart_put f equates b code count n expr t low formed shallow there counted e (distance_none code n e distance) names may are
 
     by_held : (c : Bool) (found : List ℕ × ℕ) (w : Wanted) → eqb code 0xEB ≡ c → split_last b.run ≡ Some found → simple_of t ≡ Some w → list_all (term_listable equates) (terms_of t) ≡ true
-        → cond c (listing.expr_listable count t) (true && is_record code count n (listing.record_of_opcode both_long found.1)) ≡ true → (h : Bool) → is_held b code count n found ≡ h
+        → cond c (expr_listable count t) (true && is_record code count n (listing.record_of_opcode both_long found.1)) ≡ true → (h : Bool) → is_held b code count n found ≡ h
         → IsPut f equates b (records.Formula code count n expr) (cond h (held_back b found.0 found.1 w) (then_said (dc_of_formula count t (weak_of t) ∷ []) (with_run_written b)))
     by_held c found w e split simple names may true held = held_put f equates b code count n expr t found w low formed shallow there names are split simple held
     by_held true found w e split simple names may false held = aside e names may
@@ -354,7 +355,7 @@ formula_put f equates b code count n expr t low formed shallow there counted dis
         let clash : false ≡ true = sym held ∙ same ∙ may in absurd cc
 
     by : (c : Bool) (s : Option (List ℕ × ℕ)) (w : Option Wanted) → eqb code 0xEB ≡ c → split_last b.run ≡ s → simple_of t ≡ w → list_all (term_listable equates) (terms_of t) ≡ true
-        → cond c (listing.expr_listable count t) (is_some_wanted w && follows_opcode code count n s) ≡ true → IsPut f equates b (records.Formula code count n expr) (formula_given b code count n t s w)
+        → cond c (expr_listable count t) (is_some w && follows_opcode code count n s) ≡ true → IsPut f equates b (records.Formula code count n expr) (formula_given b code count n t s w)
     by c (Some found) (Some w) e split simple names may = by_held c found w e split simple names may (is_held b code count n found) refl
     by true (Some found) None e split simple names may = aside e names may
     by false (Some found) None e split simple names may = absurd cc

@@ -19,7 +19,8 @@ use Rattle.asm_meaning.specs.declared.directives.Switch.TheVariants.{LongA, Long
 use Rattle.asm_meaning.specs.Instruction.{Widths, kind_of, operand_bytes, opcode_in}
 use Rattle.asm_meaning.specs.laws.PieceLaws.{all-append}
 use Rattle.list_meaning.specs.Listed.{ListedStatement, SwitchIs, Instructs, Bytes, Number}
-use Rattle.list_meaning.specs.Listing.{instruction_of_opcode, after_opcode, widths_following, turns_between, same_bool, operand_by, written_or, said_instruction, widths_past, said_rest, widths_rest}
+use Rattle.list_meaning.specs.Listing.{instruction_of_opcode, after_opcode, widths_following, turns_between, same_bool, operand_by, said_instruction, widths_past, said_rest, widths_rest}
+use Rattle.list_meaning.specs.laws.Steps.{written_or}
 use Rattle.list_meaning.specs.laws.ModeLaw.{has_it}
 use Rattle.list_meaning.specs.laws.RunLaw.{decoded_is, opcode_is, two_bytes, no_bytes, rejoined}
 use Rattle.list_meaning.specs.laws.BytesLine.{AreBytes}

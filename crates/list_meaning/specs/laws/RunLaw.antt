@@ -6,7 +6,8 @@ use Rattle.byteorder.specs.Endian.{little_number}
 use Rattle.orca_meaning.specs.Matrix.{matrix, Instruction}
 use Rattle.asm_meaning.specs.Instruction.{opcode_in}
 use Rattle.list_meaning.specs.laws.ModeLaw.{opcode_back}
-use Rattle.list_meaning.specs.Listing.{instruction_of_opcode, or_brk}
+use Rattle.list_meaning.specs.Listing.{instruction_of_opcode}
+use Rattle.list_meaning.specs.laws.Steps.{or_brk}
 
 -- each byte is an opcode
 matrix_length : length matrix ≡ 256

@@ -26,7 +26,8 @@ use Rattle.asm_meaning.specs.declared.directives.Switch.TheVariants.{LongA, Long
 use Rattle.asm_meaning.specs.Instruction.{Widths}
 use Rattle.asm_meaning.specs.State.{no_constants}
 use Rattle.list_meaning.specs.Listed as listed
-use Rattle.list_meaning.specs.Listed.{ListedStatement, NextAlignIs, NextOrg, StartIs, KindIs, SwitchIs, Ds, Aligns, OrgIs, UsingIs, StrongIs, Labels, Equates, Instructs, Bytes, WeakIs, FormulaIs, EndIs, Wanted, None', Number, Banks, Label, Moved, said_text, with_leading_space, statement_text, number_text, operand_text, wanted_text, quoted_value, formula_text, spelling_of}
+use Rattle.list_meaning.specs.Listed.{ListedStatement, NextAlignIs, NextOrg, StartIs, KindIs, SwitchIs, Ds, Aligns, OrgIs, UsingIs, StrongIs, Labels, Equates, Instructs, Bytes, WeakIs, FormulaIs, EndIs, Wanted, None', Number, Banks, Label, Moved, said_text, statement_text, number_text, wanted_text, quoted_value, formula_text, spelling_of}
+use Rattle.list_meaning.specs.laws.Steps.{operand_text, on_text, with_leading_space}
 use Rattle.list_meaning.specs.Listing.{is_short}
 use Rattle.list_meaning.specs.laws.LineText.{HasNoBlank, IsOperation, IsLabelFront, laid_three, no_comment}
 use Rattle.list_meaning.specs.laws.Expands.{IsPlainLine, IsOfAssembler, Other, Labelled, HasNoSymbol, HasNoDot}
@@ -259,7 +260,7 @@ directive_shape said label operation operand text is front label_is operand_is =
   assembles = Other is.other;
 }
 
-on_clean : (on : Bool) → AreClean (listed.on_text on)
+on_clean : (on : Bool) → AreClean (on_text on)
 on_clean true = (refl, (refl, tt))
 on_clean false = (refl, (refl, (refl, tt)))
 
@@ -400,9 +401,9 @@ fine_shape equates align names w (NextAlignIs n) fine = absurd fine
 fine_shape equates align names w (NextOrg n) fine = absurd fine
 fine_shape equates align names w (StartIs crosses name load_name) fine = absurd fine
 fine_shape equates align names w (KindIs n) fine = absurd fine
-fine_shape equates align names w (SwitchIs LongA on) fine = directive_shape (SwitchIs LongA on) [] (codes "LONGA") (listed.on_text on) refl long_a_is tt tt (on_clean on)
-fine_shape equates align names w (SwitchIs LongI on) fine = directive_shape (SwitchIs LongI on) [] (codes "LONGI") (listed.on_text on) refl long_i_is tt tt (on_clean on)
-fine_shape equates align names w (SwitchIs Msb on) fine = directive_shape (SwitchIs Msb on) [] (codes "MSB") (listed.on_text on) refl msb_is tt tt (on_clean on)
+fine_shape equates align names w (SwitchIs LongA on) fine = directive_shape (SwitchIs LongA on) [] (codes "LONGA") (on_text on) refl long_a_is tt tt (on_clean on)
+fine_shape equates align names w (SwitchIs LongI on) fine = directive_shape (SwitchIs LongI on) [] (codes "LONGI") (on_text on) refl long_i_is tt tt (on_clean on)
+fine_shape equates align names w (SwitchIs Msb on) fine = directive_shape (SwitchIs Msb on) [] (codes "MSB") (on_text on) refl msb_is tt tt (on_clean on)
 fine_shape equates align names w (Ds n) fine = directive_shape (Ds n) [] (codes "DS") (number_text 8 n) refl ds_is tt tt (number_clean 8 n fine)
 fine_shape equates align names w (Aligns n) fine = directive_shape (Aligns n) [] (codes "ALIGN") (number_text 8 n) refl align_is tt tt (number_clean 8 n fine.0)
 fine_shape equates align names w (OrgIs n) fine = directive_shape (OrgIs n) [] (codes "ORG") (codes "*+" ++ number_text 8 n) refl org_is tt tt (refl, (refl, number_clean 8 n (omega (arith, fine))))

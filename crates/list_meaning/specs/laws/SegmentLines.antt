@@ -25,11 +25,13 @@ use Rattle.asm_meaning.specs.Pieces.{place_after}
 use Rattle.asm_meaning.specs.laws.PieceLaws.{all-append, place_after-append}
 use Rattle.asm_meaning.specs.laws.ObjectFileLaws.{same_place}
 use Rattle.asm_meaning.specs.State as states
-use Rattle.asm_meaning.specs.State.{State, StartedSegment, FinishedSegment, state_after_start, state_after_end, with_local_record, in_segment, ended_of, bank_size_of, no_names}
+use Rattle.asm_meaning.specs.State.{State, StartedSegment, FinishedSegment, state_after_start, state_after_end, with_local_record, in_segment, bank_size_of, no_names}
+use Rattle.asm_meaning.specs.laws.Steps.{ended_of}
 use Rattle.asm_meaning.specs.Statement.{IsStep, value_in}
 use Rattle.list_meaning.specs.Listed.{ListedStatement, NextAlignIs, NextOrg, StartIs, KindIs, SwitchIs, Ds, EndIs, said_text}
 use Rattle.list_meaning.specs.Listing as listing
-use Rattle.list_meaning.specs.Listing.{PendingRun, Given, without_padding, is_padded, is_listable, is_listable_load_name, is_listed_form, greatest_length, has_lost_place, has_listable_header, unless_zero, front_of, widths_rest, said_rest, is_among, is_short, are_short, given_by, with_run_written, then_said, equate_name, equates_of, or_record, said_from, at_front, both_long, listing_of, listing_from}
+use Rattle.list_meaning.specs.Listing.{PendingRun, Given, without_padding, is_listable, is_listable_load_name, has_listable_header, unless_zero, front_of, widths_rest, said_rest, is_among, is_short, given_by, with_run_written, then_said, equate_name, said_from, both_long, listing_of, listing_from}
+use Rattle.list_meaning.specs.laws.Steps.{is_padded, are_short, equates_of, or_record, at_front, is_listed_form, greatest_length, has_lost_place}
 use Rattle.list_meaning.specs.Flat.{contents_of}
 use Rattle.list_meaning.specs.Given.{name_said, widths_said, Opens, Closes}
 use Rattle.list_meaning.specs.laws.BytesLine.{AreBytes}

@@ -1,5 +1,5 @@
 -- The law on one line, for DC A with a formula.
-use Rattle.std.proofs.Common.{◌≡◌, ℕ, ◌+◌, ◌^◌, ◌≤◌, Bool, true, false, cond, ltb, List, [], ◌∷◌, ◌++◌, length, take, drop, Some, None, Ok, refl, sym, ap, ◌∙◌, arith, append_assoc}
+use Rattle.std.proofs.Common.{◌≡◌, ℕ, ◌+◌, ◌^◌, ◌≤◌, Bool, true, false, cond, eqb, ltb, List, [], ◌∷◌, ◌++◌, length, take, drop, Some, None, Ok, refl, sym, ap, ◌∙◌, arith, append_assoc}
 use Rattle.std.specs.Prelude.{◌==◌, ◌||◌, nat_lt}
 use Rattle.std.specs.List.{AllByRecursion, list_any, position_or_len}
 use Rattle.std.proofs.lemmas.Bool.{le-ltb, lt-ltb, lt-leb}
@@ -12,7 +12,9 @@ use Rattle.omf_format.specs.Record.{Formula}
 use Rattle.orca_meaning.specs.Formula.{pending, has_large}
 use Rattle.orca_meaning.specs.laws.Steps.{is_large}
 use Rattle.orca_meaning.specs.Token as tokens
+use Rattle.asm_meaning.specs.Answer.{all_of}
 use Rattle.asm_meaning.specs.Constant.{Constants, KnownValue, Number, Open, Divided, known_value, worth_of_two, with_values, amount}
+use Rattle.asm_meaning.specs.laws.Steps.{number_or}
 use Rattle.asm_meaning.specs.Elements as elements
 use Rattle.asm_meaning.specs.Elements.{Element, list_pieces}
 use Rattle.asm_meaning.specs.Formulas.{expression_text, checked_formula}
@@ -45,7 +47,10 @@ same_values : (constants : Constants) (t : Tree) → CanWrite t → AreUnknown c
 same_values constants (Leaf (expression.Operator code)) can are = refl
 same_values constants (Leaf expression.Location) can are = refl
 same_values constants (Leaf (expression.Constant n)) can are = refl
-same_values constants (Leaf (expression.Named code name)) can are = rw (can.0, are) (ap (λ (c : ℕ). Leaf (expression.Named c name)) refl)
+same_values constants (Leaf (expression.Named code name)) can are = same
+  where
+    same : Leaf (cond (eqb code 0x83) (number_or (expression.Named code name) (constants name)) (expression.Named code name)) ≡ Leaf (expression.Named code name)
+    same = rw (can.0, are) (ap (λ (c : ℕ). Leaf (expression.Named c name)) refl)
 same_values constants (Leaf (expression.Offset n)) can are = refl
 same_values constants (Unary code a) can are = ap (λ (x : Tree). Unary code x) (same_values constants a can.1 are)
 same_values constants (Binary code a b) can are = ap (λ (x : Tree). Binary code x (with_values constants b)) (same_values constants a can.1 are.0) ∙ ap (λ (x : Tree). Binary code a x) (same_values constants b can.2 are.1)
@@ -91,7 +96,7 @@ pub sum_gives : (constants : Constants) (msb : Bool) (count : ℕ) (t : Tree) �
     → (list_pieces constants msb (Some (element_of count t ∷ [])) >>= λ pieces. Ok (records_of pieces)) ≡ Ok (Formula 0xEB count 0 (expression_text t) ∷ [])
 unfolding elements.element_pieces checked_formula amount records_after
 sum_gives constants msb count t can are open' few =
-    rw (le-ltb 64 (pending 1 t) few, no_large t can, open_worth constants t can are open', same_values constants t can are) refl
+    rw (all_of, le-ltb 64 (pending 1 t) few, no_large t can, open_worth constants t can are open', same_values constants t can are) refl
 
 -- no quote is among the bytes
 abbrev pub HasNoQuote : List ℕ → Type 0

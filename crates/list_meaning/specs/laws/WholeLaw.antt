@@ -7,7 +7,8 @@ use Rattle.omf_format.specs.laws.LinesLaws.{lines_of-lf}
 use Rattle.orca_meaning.specs.Line.{numbered_lines}
 use Rattle.macro_meaning.specs.Expansion.{IsExpanded}
 use Rattle.list_meaning.specs.laws.Expands.{IsPlainLine, plain_source_expands}
-use Rattle.list_meaning.specs.Listed.{ListedStatement, said_text, line_text, listing_text}
+use Rattle.list_meaning.specs.Listed.{ListedStatement, said_text, listing_text}
+use Rattle.list_meaning.specs.laws.Steps.{line_text}
 
 -- a line that a listing can contain
 pub record IsSaidLine (said : ListedStatement) : Type 0 where

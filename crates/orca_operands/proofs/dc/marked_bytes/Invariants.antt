@@ -1,5 +1,5 @@
 use Rattle.std.proofs.Common.{◌≡◌, ◌++◌, map, drop}
-use Rattle.asm_meaning.specs.Elements.{text_byte}
+use Rattle.asm_meaning.specs.laws.Steps.{text_byte}
 use Rattle.orca_operands.proofs.dc.marked_bytes.Given as goal
 
 abbrev pub invariant-bytes : goal.invariant-bytes

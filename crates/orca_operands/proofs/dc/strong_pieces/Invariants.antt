@@ -1,5 +1,5 @@
 use Rattle.std.proofs.Common.{◌≡◌, ◌++◌, map, drop}
-use Rattle.asm_meaning.specs.Elements.{strong_piece}
+use Rattle.asm_meaning.specs.laws.Steps.{strong_piece}
 use Rattle.orca_operands.specs.PieceView.{piece}
 use Rattle.orca_operands.proofs.dc.strong_pieces.Given as goal
 

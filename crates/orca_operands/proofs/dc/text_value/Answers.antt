@@ -1,5 +1,5 @@
 use Rattle.std.proofs.Common.{map, ap, ◌∙◌}
-use Rattle.asm_meaning.specs.Elements.{text_byte}
+use Rattle.asm_meaning.specs.laws.Steps.{text_byte}
 use Rattle.orca_operands.specs.PieceView.{piece}
 use Rattle.orca_operands.proofs.Elementing.{has_text}
 use Rattle.orca_operands.proofs.dc.text_value.Goals as goal

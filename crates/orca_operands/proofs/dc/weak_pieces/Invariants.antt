@@ -1,6 +1,6 @@
 use Rattle.std.proofs.Common.{◌≡◌, ◌++◌, map, drop}
 use Rattle.std.specs.List.{AllByRecursion}
-use Rattle.asm_meaning.specs.Elements.{weak_piece}
+use Rattle.asm_meaning.specs.laws.Steps.{weak_piece}
 use Rattle.asm_meaning.specs.laws.GivenLaws.{IsNameLength}
 use Rattle.orca_operands.specs.PieceView.{piece}
 use Rattle.orca_operands.proofs.dc.weak_pieces.Given as goal

@@ -1,5 +1,5 @@
 use Rattle.std.proofs.Common.{map, ap, ◌∙◌}
-use Rattle.asm_meaning.specs.Elements.{weak_piece}
+use Rattle.asm_meaning.specs.laws.Steps.{weak_piece}
 use Rattle.orca_operands.specs.PieceView.{piece}
 use Rattle.orca_operands.proofs.Elementing.{closed_short, has_weak, names_short}
 use Rattle.orca_operands.proofs.dc.weak_value.Goals as goal

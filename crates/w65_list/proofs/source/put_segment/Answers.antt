@@ -2,7 +2,8 @@ use Rattle.std.proofs.Common.{◌≡◌, ℕ, List, [], ◌∷◌, Err, ap, subs
 use Rattle.omf_format.specs.File.{body_reader}
 use Rattle.omf_format.specs.Reading.{Reader, records_of}
 use Rattle.omf_records.specs.Segments.{segment_of_view}
-use Rattle.list_meaning.specs.Listing.{listing_of, both_long, at_front, equates_of}
+use Rattle.list_meaning.specs.Listing.{listing_of, both_long}
+use Rattle.list_meaning.specs.laws.Steps.{at_front, equates_of}
 use Rattle.w65_list.specs.BeforeView.{IsBefore}
 use Rattle.w65_list.proofs.SourceLaws.{failed, refusal_of, segment_front, names_of, segment_answer, segment_refusal}
 use Rattle.w65_list.proofs.source.put_segment.Goals as goal

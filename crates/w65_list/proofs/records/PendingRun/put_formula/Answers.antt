@@ -3,7 +3,8 @@ use Rattle.std.specs.Prelude.{option_map}
 use Rattle.std.proofs.lemmas.Result.{on_ok_weaker}
 use Rattle.omf_expr.specs.View.{view}
 use Rattle.list_meaning.specs.Listed.{Wanted}
-use Rattle.list_meaning.specs.Listing.{Given, are_short, simple_of, split_last}
+use Rattle.list_meaning.specs.Listing.{Given, simple_of, split_last}
+use Rattle.list_meaning.specs.laws.Steps.{are_short}
 use Rattle.list_lines.specs.FormulaView.{simple_four}
 use Rattle.w65_list.specs.Giving.{Gave, held_by, held_with}
 use Rattle.list_lines.specs.LineView.{operand_view}
