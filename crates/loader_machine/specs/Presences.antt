@@ -1,32 +1,21 @@
 -- Whether and where segments are in memory.
-use Rattle.std.specs.Prelude.{ℕ, Bool, true, false, List, Option, Some, None}
+use Rattle.std.specs.Prelude.{ℕ, Bool, true, false, List, Option, Some, None, if◌then◌else◌}
 use Rattle.std.specs.Option.{option_and_then}
 use Rattle.iigs_meaning.specs.declared.handles.Handle.{Handle}
-use Rattle.iigs_meaning.specs.declared.wants.Block.{Block}
 use Rattle.iigs_meaning.specs.Slots.{get}
 use Rattle.iigs_meaning.specs.Fits.{Slots}
 use Rattle.loader_machine.specs.Heads.{at_number}
 pub use Rattle.loader_machine.specs.declared.seen.Presence.{Presence}
 pub use Rattle.loader_machine.specs.declared.seen.Presence.TheVariants.{Absent, Purged, Idle, Active}
 
--- a block that is there is active where it is locked, and else idle
-abbrev pub lies_here : Handle → ℕ → Bool → Presence
-lies_here h address true = Active h address
-lies_here h address false = Idle h address
-
--- an empty block is purged
-abbrev pub lies_at : Handle → Option ℕ → Bool → Presence
-lies_at h None locked = Purged h
-lies_at h (Some address) locked = lies_here h address locked
-
-abbrev pub lies_in : Handle → Option Block → Presence
-lies_in h None = Absent
-lies_in h (Some block) = lies_at h block.at block.locked
-
--- the presence of a segment, from its handle and the slots
+-- The presence of a segment, from its handle and the slots: absent without a block, purged where its block is empty, active where the block
+-- is locked, and else idle.
 abbrev pub presence : Slots → Option Handle → Presence
 presence slots None = Absent
-presence slots (Some h) = lies_in h (get slots h)
+presence slots (Some h) = elim (get slots h) [
+  | None ↦ Absent
+  | Some block ↦ elim block.at [ None ↦ Purged h | Some address ↦ if block.locked then Active h address else Idle h address ]
+]
 
 -- the handle of the segment with a number
 abbrev pub handle_at : List (Option Handle) → ℕ → Option Handle

@@ -144,9 +144,6 @@ without_all users (id ∷ ids) = without_all (with_user users id None) ids
 abbrev pub runs_again : User → User
 runs_again user = record user { life = Running }
 
-abbrev pub dormant_user : User → User
-dormant_user user = record user { life = Dormant }
-
 -- a given number of IDs, from one on
 abbrev pub ids_from : ℕ → ℕ → List ℕ
 ids_from id zero = []

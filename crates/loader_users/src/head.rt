@@ -123,7 +123,7 @@ fn some_if(asked: bool, n: u32) -> Option<u32>
     if asked { Some(n) } else { None }
 }
 
-#[tactic(auto, unfolding(loader_machine::specs::Heads::stack_want))]
+#[tactic(auto)]
 fn stack_want(head: &SegmentHead) -> Want
     ensures is { result ≡ heads.stack_want head.now }
     ensures want { IsWant result }
@@ -139,7 +139,7 @@ fn stack_want(head: &SegmentHead) -> Want
     }
 }
 
-#[tactic(auto, unfolding(loader_machine::specs::Heads::plain_want))]
+#[tactic(auto)]
 fn plain_want(head: &SegmentHead) -> Want
     ensures is { result ≡ heads.plain_want head.now }
     ensures want { IsWant result }

@@ -24,7 +24,8 @@ use Rattle.loader_machine.specs.Found.{HoldsLoad, Bad, Good}
 use Rattle.loader_machine.specs.laws.OnceLaws.{one_load, found_once}
 use Rattle.loader_machine.specs.Commands.{Reply, Started, Restart, Refused}
 use Rattle.loader_machine.specs.Refusals.{Refuse, restart_refusal}
-use Rattle.loader_machine.specs.Steps.{Sees, seen_of, NoSlots, Lacks, Begins, Either, StepsRestart, Steps, active_block, changed_all, are_there, static_handles, is_read_again, entry_of, again_users, lost_refusal}
+use Rattle.loader_machine.specs.Steps.{Sees, seen_of, NoSlots, Lacks, Begins, Either, StepsRestart, Steps, active_block, changed_all, are_there, static_handles, is_read_again, entry_of, lost_refusal}
+use Rattle.loader_machine.specs.laws.Words.{again_users}
 use Rattle.loader_machine.specs.Needs as needs
 use Rattle.loader_machine.specs.Needs.{Needs, some_read_again, path_if}
 use Rattle.loader_agrees.specs.Agrees.{LoadedUser, Loaded, Outline, kept_outlines, AreAttached, seen_in, seen_by, Agrees, IsSound, Meets}

@@ -4,7 +4,8 @@ use Rattle.std.specs.Prelude.{◌&&◌, not}
 use Rattle.omf_format.specs.Header.{has_attribute}
 use Rattle.iigs_meaning.specs.Fits.{IsWant}
 use Rattle.iigs_meaning.specs.Slide.{AsksNoPlace}
-use Rattle.loader_machine.specs.Alloc.{alloc_want, is_movable}
+use Rattle.loader_machine.specs.Alloc.{alloc_want}
+use Rattle.loader_machine.specs.laws.Words.{is_movable}
 
 pub alloc_is_want : (size attributes address : ℕ) → 1 ≤ size → IsWant (alloc_want size attributes address)
 unfolding alloc_want
