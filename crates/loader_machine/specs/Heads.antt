@@ -32,21 +32,14 @@ is_table head = form_of head.kind == 0x02
 
 -- ---- ORG
 
--- ORG fixes the bank, where it asks for one and doesn't ask for a place in a bank
-abbrev pub fixes_bank : SegmentHead → Bool
-fixes_bank head = not (head.org == 0) && (is_absolute_bank head.kind && not (is_bank_relative head.kind))
-
--- ORG fixes the place in a bank, where it asks for one and doesn't ask for a bank
-abbrev pub fixes_low : SegmentHead → Bool
-fixes_low head = not (head.org == 0) && (is_bank_relative head.kind && not (is_absolute_bank head.kind))
-
 abbrev pub some_if : Bool → ℕ → Option ℕ
 some_if asked n = if asked then Some n else None
 
 -- ---- wants
 
 -- What is asked of a segment's place, which is room for LENGTH bytes and one at least: direct page and stack are in bank 0, on a page at
--- least, and every other segment asks for what its header says, for the address where ORG asks for both bank and place or for neither.
+-- least. Every other segment asks for what its header says; an ORG other than 0 fixes the bank where it is an absolute bank alone, the place in
+-- a bank where it is bank relative alone, and else the address.
 unfoldable pub want_of : SegmentHead → Want
 want_of head = if form_of head.kind == 0x12 then record {
   size = max 1 head.length;
@@ -56,15 +49,19 @@ want_of head = if form_of head.kind == 0x12 then record {
   at = None;
   bank = Some 0;
   low = None;
-} else record {
-  size = max 1 head.length;
-  align = alignment_of head.align;
-  no_cross = stays_in_bank head.bank_size;
-  no_special = avoids_special head.kind;
-  at = some_if (not (head.org == 0) && (not (fixes_bank head) && not (fixes_low head))) head.org;
-  bank = some_if (fixes_bank head) (head.org / 0x10000);
-  low = some_if (fixes_low head) (head.org % 0x10000);
-}
+} else (
+  let asks = not (head.org == 0) in
+  let fixes_bank = asks && (is_absolute_bank head.kind && not (is_bank_relative head.kind)) in
+  let fixes_low = asks && (is_bank_relative head.kind && not (is_absolute_bank head.kind)) in
+  record {
+    size = max 1 head.length;
+    align = alignment_of head.align;
+    no_cross = stays_in_bank head.bank_size;
+    no_special = avoids_special head.kind;
+    at = some_if (asks && (not fixes_bank && not fixes_low)) head.org;
+    bank = some_if fixes_bank (head.org / 0x10000);
+    low = some_if fixes_low (head.org % 0x10000);
+  })
 
 -- the wants of the static segments, in order
 abbrev pub wants_of : List SegmentHead → List Want

@@ -6,7 +6,6 @@ use Rattle.omf_base.specs.Digits.{hexadecimal}
 use Rattle.load_meaning.specs.declared.load.LoadCause.{LoadCause}
 use Rattle.load_meaning.specs.declared.load.LoadCause.TheVariants as cause
 use Rattle.iigs_meaning.specs.declared.handles.Handle.{Handle}
-use Rattle.loader_machine.specs.declared.seen.Presence.{Presence}
 use Rattle.loader_machine.specs.declared.seen.Presence.TheVariants.{Absent, Purged, Idle, Active}
 use Rattle.loader_machine.specs.declared.faults.LoaderFault.{LoaderFault}
 use Rattle.loader_machine.specs.declared.faults.LoaderFault.TheVariants as fault
@@ -20,13 +19,6 @@ handle_text h = hexadecimal 4 h.slot ++ hexadecimal 2 h.generation
 -- an address
 unfoldable pub at_text : ℕ → List ℕ
 at_text address = codes " at " ++ hexadecimal 6 address
-
--- whether and where a segment is in memory
-unfoldable pub presence_text : Presence → List ℕ
-presence_text Absent = codes "absent"
-presence_text (Purged h) = codes "purged " ++ handle_text h
-presence_text (Idle h address) = codes "idle " ++ handle_text h ++ at_text address
-presence_text (Active h address) = codes "active " ++ handle_text h ++ at_text address
 
 -- ---- refusals
 
@@ -85,7 +77,12 @@ reply_text (Shown bytes) =
     elim bytes [ [] ↦ [] | byte ∷ following ↦ hexadecimal 2 byte ++ flat_map (λ other. codes " " ++ hexadecimal 2 other) following ]
 reply_text (Lies user segment offset) = hexadecimal 4 user ++ codes " " ++ hexadecimal 4 segment ++ codes " " ++ hexadecimal 8 offset
 reply_text Nothing = codes "nothing"
-reply_text (SegmentIs presence length' kind) = presence_text presence ++ codes " length " ++ hexadecimal 8 length' ++ codes " kind " ++ hexadecimal 4 kind
+reply_text (SegmentIs presence length' kind) = (elim presence [
+  | Absent ↦ codes "absent"
+  | Purged h ↦ codes "purged " ++ handle_text h
+  | Idle h address ↦ codes "idle " ++ handle_text h ++ at_text address
+  | Active h address ↦ codes "active " ++ handle_text h ++ at_text address
+]) ++ codes " length " ++ hexadecimal 8 length' ++ codes " kind " ++ hexadecimal 4 kind
 reply_text (Placed h address) = codes "handle " ++ handle_text h ++ at_text address
 reply_text (BlockIs state) = elim state.at [
   | None ↦ codes "empty"

@@ -141,15 +141,6 @@ abbrev pub is_banks : CommandName → Bool
 is_banks name.Banks = true
 is_banks _ = false
 
--- the command that the words give by the first of them, or the first cause against them; `banks` is the first command of a script, and no
--- later one
-unfoldable pub command_of : Bool → List (List ℕ) → Result Command ScriptCause
-command_of is_first [] = Err UnknownCommand
-command_of is_first (word ∷ words) = elim (command_named word) [
-  | None ↦ Err UnknownCommand
-  | Some name ↦ if (if is_banks name then is_first else not is_first) then words_command name words else Err BanksFirst
-]
-
 -- a handle that six digits write
 abbrev pub IsHandle : Handle → Type 0
 IsHandle h = (h.slot ≤ 0xFFFF) × (h.generation ≤ 0xFF)
@@ -186,10 +177,17 @@ abbrev pub AreCommands : Bool → List Command → Type 0
 AreCommands is_first [] = Unit {0}
 AreCommands is_first (command ∷ commands) = IsCommand is_first command × AreCommands false commands
 
--- the command of a line that isn't skipped, which has at most 1,023 bytes, and is words with one space between them
+-- The command of a line that isn't skipped, or the first cause against it: it has at most 1,023 bytes, which are words with one space between
+-- them, and the first word names a command; `banks` is the first command of a script, and no later one.
 unfoldable pub line_command : Bool → List ℕ → Result Command ScriptCause
 line_command is_first line =
-    if nat_le (length line) 1023 && list_all is_word (words_of line) then command_of is_first (words_of line) else Err BadWord
+    if nat_le (length line) 1023 && list_all is_word (words_of line) then (elim (words_of line) [
+      | [] ↦ Err UnknownCommand
+      | word ∷ words ↦ elim (command_named word) [
+        | None ↦ Err UnknownCommand
+        | Some name ↦ if (if is_banks name then is_first else not is_first) then words_command name words else Err BanksFirst
+      ]
+    ]) else Err BadWord
 
 -- ---- scripts
 

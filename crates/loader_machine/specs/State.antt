@@ -141,9 +141,6 @@ abbrev pub without_all : {U : Type 0} → List (Option U) → List ℕ → List 
 without_all users [] = users
 without_all users (id ∷ ids) = without_all (with_user users id None) ids
 
-abbrev pub runs_again : User → User
-runs_again user = record user { life = Running }
-
 -- a given number of IDs, from one on
 abbrev pub ids_from : ℕ → ℕ → List ℕ
 ids_from id zero = []

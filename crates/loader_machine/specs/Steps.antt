@@ -26,9 +26,9 @@ use Rattle.load_meaning.specs.declared.load.LoadFault.{LoadFault}
 use Rattle.load_meaning.specs.declared.load.LoadCause.TheVariants as cause
 use Rattle.loader_machine.specs.declared.faults.LoaderFault.TheVariants.{NotJsl, NoTarget, NotEntry, CannotRead, BadFile, NoHandle, NoRoom}
 use Rattle.loader_machine.specs.Heads.{SegmentHead, head_of, at_number, is_static, is_table, want_of, wants_of, number_of, entry_in}
-use Rattle.loader_machine.specs.State.{Running, Dormant, HeldSegment, User, Machine, absent, fresh, UserSeen, empty_of, first_id, user_of, with_user, handles_of, held_at, outlines, named_by, is_attached, family, handles_of_all, with_all, without_all, runs_again, ids_from}
+use Rattle.loader_machine.specs.State.{Running, Dormant, HeldSegment, User, Machine, absent, fresh, UserSeen, empty_of, first_id, user_of, with_user, handles_of, held_at, outlines, named_by, is_attached, family, handles_of_all, with_all, without_all, ids_from}
 use Rattle.loader_machine.specs.Presences.{Absent, Purged, Idle, Active, presence_at, handle_at, is_there}
-use Rattle.loader_machine.specs.Stands.{AddressSetting, stands, setting, setting_with, far_of}
+use Rattle.loader_machine.specs.Stands.{AddressSetting, stands, setting_with, far_of, place_in}
 use Rattle.loader_machine.specs.Found.{HoldsLoad, FileFound, Unread, Bad, Good, IsFound, Joined, Stops, Joins, AreJoined}
 use Rattle.loader_machine.specs.Alloc.{alloc_want}
 use Rattle.loader_machine.specs.Commands.{Command, Banks, Load, LoadSegment, UnloadSegment, Jsl, ShutDown, Restart, Purge, Poke, Bytes, Where, Info, Alloc, Free, Lock, Unlock, Level, StateOf, Room, Compact, Reply, Okay, Started, MadeActive, Entered, Counted, Shown, Lies, Nothing, SegmentIs, Placed, BlockIs, RoomIs, Moved, Refused}
@@ -116,7 +116,7 @@ held_of_heads (head ∷ heads) (h ∷ hs) = if is_static head then fresh (Some h
 
 -- where a user begins
 abbrev pub entry_of : ℕ → Slots → List SegmentHead → List (Option Handle) → Option ℕ
-entry_of id slots heads handles = entry_in heads ((setting id slots handles).place) 1
+entry_of id slots heads handles = entry_in heads (place_in slots handles) 1
 
 -- a running user whose static segments have these handles
 abbrev pub started_user : List ℕ → List SegmentHead → List Handle → User
@@ -330,16 +330,16 @@ read_again (head ∷ heads) (one ∷ held) = (if is_read_again head then fresh o
 -- handles are released, and it begins as at a load. It keeps the users attached to it, and they run.
 pub record StepsRestart (Makes : MakesRoom) (held : FileMap) (state : Machine) (id : ℕ) (reply : Reply) (next : Machine) : Type 0 where
   pub sees : Sees held state id
-  pub is : let user = sees.user in let heads = map head_of sees.segments in Either (are_there state.slots heads (handles_of user) 1)
+  pub is : let user = sees.user in let heads = map head_of sees.segments in let runs : User → User = λ one. record one { life = Running } in Either (are_there state.slots heads (handles_of user) 1)
       (let slots = changed_all active_block state.slots (static_handles heads (handles_of user) 1) in
       (reply ≡ Started id (entry_of id slots heads (handles_of user)))
       × (next ≡ record {
         banks = state.banks;
         slots = slots;
-        users = with_all runs_again (with_user state.users id (Some (record user { life = Running; segments = read_again heads user.segments }))) user.attached;
+        users = with_all runs (with_user state.users id (Some (record user { life = Running; segments = read_again heads user.segments }))) user.attached;
       }))
       (Begins Makes state (without_user state.slots id) user.path id sees.segments
-      (λ new. with_all runs_again (with_user state.users id (Some (record new { attached = user.attached }))) user.attached) reply next)
+      (λ new. with_all runs (with_user state.users id (Some (record new { attached = user.attached }))) user.attached) reply next)
 
 -- ---- the script's own blocks
 

@@ -21,7 +21,8 @@ use Rattle.sys_loader.specs.declared.answers.Entered.{Entered}
 use Rattle.sys_loader.specs.Replies.{done_reply, where_reply, IsAllocRefusal}
 use Rattle.sys_loader.specs.Lives.{DidPoke, DidUnload, DidShutDown}
 use Rattle.loader_agrees.specs.Agrees.{Loaded, kept_outlines, seen_by}
-use Rattle.loader_replies.specs.Replied.{is_unread, is_unread_fault}
+use Rattle.loader_replies.specs.Replied.{is_unread}
+use Rattle.loader_replies.proofs.Words.{is_unread_fault}
 
 pub where_safe : (o : Option Entered) → is_unread (where_reply o) ≡ false
 where_safe None = refl

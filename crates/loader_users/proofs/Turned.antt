@@ -21,7 +21,8 @@ use Rattle.loader_machine.specs.Stands.{Far, AddressSetting, setting_with, place
 use Rattle.loader_machine.specs.laws.Words.{entry_for}
 use Rattle.loader_machine.specs.laws.StandsLaws.{AreAlike, stands_alike}
 use Rattle.loader_machine.specs.Found.{HoldsLoad}
-use Rattle.loader_agrees.specs.Agrees.{LoadedUser, outline, outline_of, AreThere, UserAgrees}
+use Rattle.loader_agrees.specs.Agrees.{LoadedUser, outline, outline_of, UserAgrees}
+use Rattle.loader_agrees.specs.laws.Words.{AreThere}
 use Rattle.loader_agrees.specs.laws.EntryReads.{table_stands, targets_count, number_within}
 use Rattle.loader_users.specs.Renewing.{Choice, is_chosen, relinked_entries}
 use Rattle.loader_users.proofs.Leads.{Leads, Own, Other}

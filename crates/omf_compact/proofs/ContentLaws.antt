@@ -18,7 +18,8 @@ use Rattle.load_meaning.specs.laws.LayingLaws.{get-front, get-take, Missed, same
 use Rattle.load_meaning.specs.laws.StoredLaws.{zeros-le, written_apart, parts, patched-laid, stored-laid, fit-stored, fit-cells}
 use Rattle.load_meaning.specs.WrittenBody.{stored_bytes}
 use Rattle.omf_cells.specs.Whole.{front_of, front_at, data_at}
-use Rattle.omf_compact.specs.Stretches.{first_broken, stretches, byte_in, bytes_in, IsWrittenCell}
+use Rattle.omf_compact.specs.Stretches.{first_broken, stretches, bytes_in, IsWrittenCell}
+use Rattle.omf_compact.specs.laws.Words.{byte_in}
 use Rattle.omf_compact.specs.Canonical.{plain_of, is_pathname, canon_fields, canon_segment}
 use Rattle.omf_compact.specs.laws.Writing.{IsKnown, first_records, first_text}
 use Rattle.omf_compact.specs.laws.StretchLaws.{covers, stretches_written}

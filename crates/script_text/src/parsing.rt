@@ -4,8 +4,8 @@ ghost use Rattle.std.specs.Prelude.{◌≡◌, ◌≢◌, ◌==◌, ◌&&◌, �
 ghost use Rattle.std.specs.List.{list_all, list_any};
 ghost use Rattle.loader_machine.specs.Commands as machine;
 ghost use Rattle.loader_machine.specs.Alloc.{is_attributes};
-ghost use Rattle.loader_machine.specs.Script.{words_of, is_word, stands_twice, one_number, two_numbers, given_by, handle_of, words_command, command_named, is_number, number_of, command_of, line_command};
-ghost use Rattle.loader_machine.specs.laws.Words.{banks_of, load_of, are_jsl_numbers, jsl_of, is_manner, shut_down_of, are_poke_numbers, poke_of, bytes_of, are_bytes_numbers, are_alloc_numbers, alloc_of, room_of, compact_of, is_in_turn};
+ghost use Rattle.loader_machine.specs.Script.{words_of, is_word, stands_twice, one_number, two_numbers, given_by, handle_of, words_command, command_named, is_number, number_of, line_command};
+ghost use Rattle.loader_machine.specs.laws.Words.{command_of, banks_of, load_of, are_jsl_numbers, jsl_of, is_manner, shut_down_of, are_poke_numbers, poke_of, bytes_of, are_bytes_numbers, are_alloc_numbers, alloc_of, room_of, compact_of, is_in_turn};
 ghost use Rattle.script_text.specs.Words.{bank_numbers, IsHandleIn};
 ghost use Rattle.script_text.specs.View.{command, IsRead};
 
@@ -54,7 +54,6 @@ fn bank_numbers(alloc: Global, words: &mut Words) -> Result<Vec<u8>, ScriptCause
 }
 
 /// `banks B B ..`
-#[tactic(auto)]
 fn banks(alloc: Global, words: &mut Words) -> Result<Command, ScriptCause>
     ensures { IsRead command result (banks_of words.old) }
 {
@@ -488,7 +487,6 @@ fn state(words: &mut Words) -> Result<Command, ScriptCause>
 }
 
 /// `room`
-#[tactic(auto)]
 fn room(words: &mut Words) -> Result<Command, ScriptCause>
     ensures { IsRead command result (room_of words.old) }
 {
@@ -499,7 +497,6 @@ fn room(words: &mut Words) -> Result<Command, ScriptCause>
 }
 
 /// `compact`
-#[tactic(auto)]
 fn compact(words: &mut Words) -> Result<Command, ScriptCause>
     ensures { IsRead command result (compact_of words.old) }
 {
@@ -629,7 +626,6 @@ fn is_in_turn(name: CommandName, is_first: bool) -> bool
 }
 
 /// The command that the words of a line give, where it is the first one of a script or isn't.
-#[tactic(auto, unfolding(loader_machine::specs::Script::command_of))]
 fn command_of(alloc: Global, line: &[u8], is_first: bool) -> Result<Command, ScriptCause>
     requires { list_all is_word (words_of line.now) ≡ true }
     ensures { IsRead command result (command_of is_first (words_of line.now)) }

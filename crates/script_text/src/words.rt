@@ -109,7 +109,6 @@ fn is_word(word: &[u8]) -> bool
 }
 
 /// Whether the line is words with one space between them, and not too long.
-#[tactic(auto)]
 pub(crate) fn is_well_formed(line: &[u8]) -> bool
     ensures { result ≡ is_well_formed line.now }
 {

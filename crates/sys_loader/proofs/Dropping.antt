@@ -27,7 +27,8 @@ use Rattle.loader_machine.specs.Stands.{far_of}
 use Rattle.loader_machine.specs.Refusals.{shut_down_refusal}
 use Rattle.loader_machine.specs.Commands.{Okay, ShutDown}
 use Rattle.loader_machine.specs.Steps.{without_users}
-use Rattle.loader_agrees.specs.Agrees.{LoadedUser, Loaded, outline, kept_outlines, seen_by, far_in, UserAgrees, AreAttached, LeadsFar, EntriesLead, Agrees, IsCall, IsOf, Has, IsSound, Met}
+use Rattle.loader_agrees.specs.Agrees.{LoadedUser, Loaded, outline, kept_outlines, seen_by, UserAgrees, AreAttached, LeadsFar, Agrees, IsCall, IsOf, Has, IsSound, Met}
+use Rattle.loader_agrees.specs.laws.Words.{far_in, EntriesLead}
 use Rattle.loader_agrees.specs.laws.Begun.{decide}
 use Rattle.loader_agrees.specs.laws.Frame.{Same, agrees_still}
 use Rattle.loader_agrees.specs.laws.Lists.{set_map, set_at, set_apart, length_set}

@@ -31,7 +31,8 @@ use Rattle.loader_machine.specs.Refusals.{Refuse, bytes_refusal, load_segment_re
 use Rattle.loader_machine.specs.Steps.{Sees, StandsIn, IsAt, AddressPlace, Nowhere, In, IsLocated, Decides, Either, no_jsl, address_of, target_at_code, MakesActive, StepsJsl}
 use Rattle.loader_machine.specs.Needs.{Needs, Reaches, is_read, path_if}
 use Rattle.loader_machine.specs.Commands.{Reply, Jsl, Entered, Refused}
-use Rattle.loader_agrees.specs.Agrees.{far_in, LoadedUser, Loaded, kept_outlines, seen_by, LeadsFar, Agrees, Has, IsSound, Meets}
+use Rattle.loader_agrees.specs.Agrees.{LoadedUser, Loaded, kept_outlines, seen_by, LeadsFar, Agrees, Has, IsSound, Meets}
+use Rattle.loader_agrees.specs.laws.Words.{far_in}
 use Rattle.loader_agrees.specs.Acts.{HasBorrowed, LiesIn}
 use Rattle.loader_agrees.specs.laws.Reads.{its_segment, begins, stands_there, stands_size, at_there, within_front, lies_back, sees_of, one, user}
 use Rattle.loader_agrees.specs.laws.BegunSound.{want_size}

@@ -29,7 +29,8 @@ use Rattle.loader_machine.specs.Refusals.{Refuse, of_user, of_running, of_segmen
 use Rattle.loader_machine.specs.laws.Words.{of_plain}
 use Rattle.loader_machine.specs.Commands.{Okay, Refused, Poke}
 use Rattle.loader_machine.specs.Steps.{with_segment, with_both}
-use Rattle.loader_agrees.specs.Agrees.{LoadedUser, Loaded, Outline, outline_of, seen_by, far_in, UserAgrees, Agrees, IsCall, IsOf, Has, IsSound, Met}
+use Rattle.loader_agrees.specs.Agrees.{LoadedUser, Loaded, Outline, outline_of, seen_by, UserAgrees, Agrees, IsCall, IsOf, Has, IsSound, Met}
+use Rattle.loader_agrees.specs.laws.Words.{far_in}
 use Rattle.loader_agrees.specs.Checks.{PassesRunning, PassesSegment}
 use Rattle.loader_agrees.specs.laws.Checking.{active_none, active_passes, inside_none, inside_passes}
 use Rattle.loader_agrees.specs.laws.Lists.{set_map, set_same, set_at, set_apart, length_set, set_like}

@@ -20,7 +20,8 @@ use Rattle.loader_machine.specs.Found.{HoldsLoad}
 use Rattle.loader_machine.specs.Steps.{started_user, joined_users}
 use Rattle.loader_machine.specs.laws.Words.{joined_user}
 use Rattle.loader_machine.specs.laws.OnceLaws.{one_load}
-use Rattle.loader_agrees.specs.Agrees.{LoadedUser, Loaded, outline, kept_outlines, AreAttached, LeadsFar, EntriesLead, UserAgrees, Agrees, IsSound}
+use Rattle.loader_agrees.specs.Agrees.{LoadedUser, Loaded, outline, kept_outlines, AreAttached, LeadsFar, UserAgrees, Agrees, IsSound}
+use Rattle.loader_agrees.specs.laws.Words.{EntriesLead}
 use Rattle.loader_agrees.specs.Acts.{HasPlaced, started_kept, joined_kept, joined_kepts}
 use Rattle.loader_agrees.specs.laws.Begun.{user_agrees, others_agree, begun_keeps}
 use Rattle.loader_agrees.specs.laws.Joining.{user_stays}

@@ -14,7 +14,8 @@ use Rattle.loader_machine.specs.laws.Words.{lies_in, lies_at, target_with}
 use Rattle.loader_machine.specs.Stands.{Far, setting_with}
 use Rattle.loader_machine.specs.laws.StandsLaws.{AreAlike, stands_alike}
 use Rattle.load_meaning.specs.laws.CellLaws.{loadable_has}
-use Rattle.loader_agrees.specs.Agrees.{LoadedUser, AreThere, UserAgrees}
+use Rattle.loader_agrees.specs.Agrees.{LoadedUser, UserAgrees}
+use Rattle.loader_agrees.specs.laws.Words.{AreThere}
 
 -- the handle's block is as before, and so are its bytes if it is there; or it was purgeable, and is empty now
 pub data Keeps (old new : Memory) (h : Handle) : Type 0 where

@@ -11,8 +11,8 @@ use Rattle.loader_machine.specs.declared.script.CommandName.TheVariants as names
 use Rattle.loader_machine.specs.Commands.{Command, Banks, Load, LoadSegment, UnloadSegment, Jsl, ShutDown, Restart, Purge, Poke, Bytes, Where, Info, Alloc, Free, Lock, Unlock, Level, StateOf, Room, Compact}
 use Rattle.iigs_meaning.specs.Banks.{AreDistinctTo}
 use Rattle.omf_format.specs.Lines.{lines_of}
-use Rattle.loader_machine.specs.Script.{line_command, Give, IsScript, IsHandle, IsCommand, AreCommands, is_number, number_of, is_word, stands_twice, one_number, two_numbers, given_by, handle_of, words_command, is_banks, command_named, command_of, words_of}
-use Rattle.loader_machine.specs.laws.Words.{written, banks_of, load_of, are_jsl_numbers, jsl_of, is_manner, shut_down_of, are_poke_numbers, poke_of, bytes_of, are_bytes_numbers, are_alloc_numbers, alloc_of, room_of, compact_of, is_in_turn, named_command, is_well_formed}
+use Rattle.loader_machine.specs.Script.{line_command, Give, IsScript, IsHandle, IsCommand, AreCommands, is_number, number_of, is_word, stands_twice, one_number, two_numbers, given_by, handle_of, words_command, is_banks, command_named, words_of}
+use Rattle.loader_machine.specs.laws.Words.{command_of, written, banks_of, load_of, are_jsl_numbers, jsl_of, is_manner, shut_down_of, are_poke_numbers, poke_of, bytes_of, are_bytes_numbers, are_alloc_numbers, alloc_of, room_of, compact_of, is_in_turn, named_command, is_well_formed}
 
 abbrev failed : ScriptCause → Result Command ScriptCause
 failed cause = Err cause
@@ -253,7 +253,6 @@ named_keeps is_first (Some name) words command are e =
 
 command_keeps : (is_first : Bool) (words : List (List ℕ)) (command : Command) → list_all is_word words ≡ true
     → command_of is_first words ≡ Ok command → IsCommand is_first command
-unfolding command_of
 command_keeps is_first [] command are e = let clash : failed UnknownCommand ≡ Ok command = e in absurd cc
 command_keeps is_first (name ∷ words) command are e =
     named_keeps is_first (command_named name) words command (and_parts (is_word name) (list_all is_word words) are).1 e

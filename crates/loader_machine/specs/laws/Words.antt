@@ -19,29 +19,28 @@ use Rattle.omf_io.specs.Files.{FileMap}
 use Rattle.iigs_meaning.specs.declared.handles.Handle.{Handle}
 use Rattle.iigs_meaning.specs.Puts.{IsPlaceAllRefusal, LacksRoom, MakesRoom, Puts, PutsAll, PutsAnew}
 use Rattle.load_meaning.specs.declared.load.LoadFault.{LoadFault}
-use Rattle.loader_machine.specs.State.{Machine, Pokes, Running, Dormant, User, UserSeen, absent, family, first_id, fresh, handles_of, handles_of_all, ids_from, named_by, outlines, runs_again, with_all, with_user, without_all}
+use Rattle.loader_machine.specs.State.{Machine, Pokes, Running, Dormant, User, UserSeen, absent, family, first_id, fresh, handles_of, handles_of_all, ids_from, named_by, outlines, with_all, with_user, without_all}
 use Rattle.loader_machine.specs.declared.seen.Presence.{Presence}
 use Rattle.loader_machine.specs.Refusals.{Refuse, rows_refusal}
 use Rattle.loader_machine.specs.declared.script.ScriptCause.{ScriptCause}
 use Rattle.omf_format.specs.File.{Segment, segment_at}
-use Rattle.loader_machine.specs.Heads.{SegmentHead, at_number, fixes_bank, fixes_low, head_of, some_if}
+use Rattle.loader_machine.specs.Heads.{SegmentHead, at_number, head_of, some_if}
 use Rattle.iigs_meaning.specs.Fits.{Slots}
 use Rattle.load_meaning.specs.declared.table.Target.{Target}
 use Rattle.iigs_meaning.specs.declared.wants.Want.{Want}
-use Rattle.omf_format.specs.Header.{alignment_of, avoids_special, form_of, has_attribute, stays_in_bank}
+use Rattle.omf_format.specs.Header.{alignment_of, avoids_special, form_of, has_attribute, stays_in_bank, is_absolute_bank, is_bank_relative}
 use Rattle.load_meaning.specs.Cells.{byte_of, cells}
-use Rattle.loader_machine.specs.Replies.{cause_text}
+use Rattle.loader_machine.specs.Replies.{cause_text, at_text, handle_text}
 use Rattle.std.specs.List.{flat_map, list_all}
 use Rattle.omf_base.specs.Digits.{hexadecimal}
 use Rattle.loader_machine.specs.Alloc.{is_attributes}
-use Rattle.loader_machine.specs.Script.{is_banks, is_number, is_skipped, is_word, number_of, stands_twice, words_command, words_of}
+use Rattle.loader_machine.specs.Script.{is_banks, is_number, is_skipped, is_word, number_of, stands_twice, words_command, words_of, command_named}
 use Rattle.iigs_meaning.specs.Slots.{is_free, new_handle}
 use Rattle.load_meaning.specs.LoadTable.{is_table, targets_of}
 use Rattle.std.specs.Option.{option_map, option_map_or}
 use Rattle.load_meaning.specs.Pathnames.{paths_of}
 use Rattle.loader_machine.specs.Needs.{some_read_again}
 use Rattle.load_meaning.specs.Table.{table_bytes}
-
 -- ---- presences, refusals, settings
 
 -- what a handle and the place of its block make of a segment
@@ -100,6 +99,14 @@ target_with far slots handles file number = if file == 1 then active_at (presenc
 -- direct page and stack
 abbrev pub is_stack : SegmentHead → Bool
 is_stack head = form_of head.kind == 0x12
+
+-- ORG fixes the bank, where it asks for one and doesn't ask for a place in a bank
+abbrev pub fixes_bank : SegmentHead → Bool
+fixes_bank head = not (head.org == 0) && (is_absolute_bank head.kind && not (is_bank_relative head.kind))
+
+-- ORG fixes the place in a bank, where it asks for one and doesn't ask for a bank
+abbrev pub fixes_low : SegmentHead → Bool
+fixes_low head = not (head.org == 0) && (is_bank_relative head.kind && not (is_absolute_bank head.kind))
 
 -- ORG fixes the address, where it asks for both or for neither; ORG 0 fixes nothing
 abbrev pub fixes_address : SegmentHead → Bool
@@ -313,6 +320,10 @@ dropped_state state id user = record {
   users = without_all state.users (family id user.attached);
 }
 
+-- a user that runs
+abbrev pub runs_again : User → User
+runs_again user = record user { life = Running }
+
 -- in place: the static segments become active, and those with the reload attribute lose their pokes
 abbrev pub RestartsInPlace : Machine → ℕ → User → List SegmentHead → Reply → Machine → Type 0
 RestartsInPlace state id user heads reply next =
@@ -343,6 +354,13 @@ other_text byte = codes " " ++ hexadecimal 2 byte
 abbrev pub shown_text : List ℕ → List ℕ
 shown_text [] = []
 shown_text (byte ∷ following) = hexadecimal 2 byte ++ flat_map other_text following
+
+-- whether and where a segment is in memory
+abbrev pub presence_text : Presence → List ℕ
+presence_text Absent = codes "absent"
+presence_text (Purged h) = codes "purged " ++ handle_text h
+presence_text (Idle h address) = codes "idle " ++ handle_text h ++ at_text address
+presence_text (Active h address) = codes "active " ++ handle_text h ++ at_text address
 
 -- whether a block is locked
 abbrev pub lock_text : Bool → List ℕ
@@ -469,3 +487,8 @@ named_command is_first found words = elim found [
   | None ↦ Err UnknownCommand
   | Some name ↦ if is_in_turn name is_first then words_command name words else Err BanksFirst
 ]
+
+-- the command that the words give by the first of them, or the first cause against them
+abbrev pub command_of : Bool → List (List ℕ) → Result Command ScriptCause
+command_of is_first [] = Err UnknownCommand
+command_of is_first (word ∷ words) = named_command is_first (command_named word) words

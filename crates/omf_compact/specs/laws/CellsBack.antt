@@ -15,7 +15,8 @@ use Rattle.load_meaning.specs.Cells.{Cell, Byte, Patch, patched_cells, segment_b
 use Rattle.load_meaning.specs.WrittenBody.{AreWritten, written_cells, body_records}
 use Rattle.object_meaning.specs.laws.RunLaws.{placed, flat-placed}
 use Rattle.load_meaning.specs.laws.WrittenBodyLaws.{cells_are}
-use Rattle.omf_compact.specs.Stretches.{first_broken, stretches, byte_in, bytes_in, IsWrittenCell}
+use Rattle.omf_compact.specs.Stretches.{first_broken, stretches, bytes_in, IsWrittenCell}
+use Rattle.omf_compact.specs.laws.Words.{byte_in}
 use Rattle.omf_compact.specs.laws.StretchLaws.{stretches_written, given_back}
 use Rattle.omf_compact.specs.Canonical.{is_entry}
 

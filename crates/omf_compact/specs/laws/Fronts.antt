@@ -11,7 +11,8 @@ use Rattle.load_meaning.specs.laws.LayingLaws.{laid, Fit}
 use Rattle.load_meaning.specs.laws.StoredLaws.{stored-laid, fit-stored, length-data}
 use Rattle.object_meaning.specs.laws.RunLaws.{IsBodyRecord}
 use Rattle.load_meaning.specs.laws.WrittenBodyLaws.{records_fit}
-use Rattle.omf_compact.specs.Stretches.{same_cell, first_broken, broken_from, run_length, stretches_from, stretches, byte_in, bytes_in, IsWrittenCell}
+use Rattle.omf_compact.specs.Stretches.{same_cell, first_broken, broken_from, run_length, stretches_from, stretches, bytes_in, IsWrittenCell}
+use Rattle.omf_compact.specs.laws.Words.{byte_in}
 use Rattle.omf_compact.specs.laws.StretchLaws.{unbroken-both, stretches_written, given_back}
 
 -- ---- the cells up to the last that isn't a byte 0

@@ -27,7 +27,8 @@ use Rattle.load_meaning.specs.laws.LayingLaws.{Has, last_over, get-laid}
 use Rattle.load_meaning.specs.laws.CellLaws.{later_none, loadable_at, loadable_has, cells-bytes, length-segment_bytes, fit_in}
 use Rattle.load_meaning.specs.laws.StoredLaws.{parts, patched-laid, written_is}
 use Rattle.object_meaning.specs.laws.RunLaws.{text, placed, flat-placed}
-use Rattle.omf_compact.specs.Stretches.{stretches_from, stretches, byte_in, bytes_in}
+use Rattle.omf_compact.specs.Stretches.{stretches_from, stretches, bytes_in}
+use Rattle.omf_compact.specs.laws.Words.{byte_in}
 use Rattle.omf_compact.specs.laws.StretchLaws.{get-stretch, stretches_written}
 use Rattle.omf_compact.specs.laws.PartedLaws.{count_some}
 use Rattle.omf_compact.specs.laws.Sheets.{IsSheetOf, AreSheetsOf}

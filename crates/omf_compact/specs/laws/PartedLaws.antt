@@ -9,7 +9,8 @@ use Rattle.load_meaning.specs.Cells.{Cell, Byte, Part, Patch}
 use Rattle.load_meaning.specs.WrittenBody.{IsWrittenPatch, AreWritten, written_cells}
 use Rattle.load_meaning.specs.laws.LayingLaws.{get-drop, Covers, Has, Missed, look, Fit, laid, get-missed, get-found, Apart}
 use Rattle.load_meaning.specs.laws.StoredLaws.{written_is, written_apart, parts, get-parts, patched-laid, fit-cells, cells_size}
-use Rattle.omf_compact.specs.Stretches.{same_cell, broken_from, first_broken, run_length, stretches_from, stretches, byte_in, bytes_in, IsWrittenCell}
+use Rattle.omf_compact.specs.Stretches.{same_cell, broken_from, first_broken, run_length, stretches_from, stretches, bytes_in, IsWrittenCell}
+use Rattle.omf_compact.specs.laws.Words.{byte_in}
 use Rattle.omf_compact.specs.laws.StretchLaws.{some_cell, cell_is, is_same, get-run, run-reaches, begun, get-stretch, has-stretch, stretches_written}
 
 -- ---- rising lists with the same members

@@ -12,7 +12,8 @@ use Rattle.load_meaning.specs.Cells.{Cell, Byte, Part, Patch}
 use Rattle.load_meaning.specs.WrittenBody.{AreWritten, written_cells}
 use Rattle.load_meaning.specs.laws.LayingLaws.{get-drop, Covers, Has, Missed, Fit, same_list, laid, get-missed, get-found, Apart}
 use Rattle.load_meaning.specs.laws.StoredLaws.{written_apart, parts, get-parts, patched-laid, fit-cells}
-use Rattle.omf_compact.specs.Stretches.{same_cell, is_broken, broken_from, first_broken, run_length, stretches_from, stretches, byte_in, bytes_in, IsWrittenCell}
+use Rattle.omf_compact.specs.Stretches.{same_cell, is_broken, broken_from, first_broken, run_length, stretches_from, stretches, bytes_in, IsWrittenCell}
+use Rattle.omf_compact.specs.laws.Words.{byte_in}
 
 -- ---- cells
 
