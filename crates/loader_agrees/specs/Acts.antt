@@ -16,7 +16,8 @@ use Rattle.loader_machine.specs.declared.seen.Presence.{Presence}
 use Rattle.loader_machine.specs.Presences.{handle_at, presence, presence_at}
 use Rattle.loader_machine.specs.Refusals.{bytes_refusal, info_refusal}
 use Rattle.loader_machine.specs.Stands.{setting, stands}
-use Rattle.loader_machine.specs.Steps.{started_user, entry_of}
+use Rattle.loader_machine.specs.Steps.{entry_of}
+use Rattle.loader_machine.specs.laws.Words.{started_user}
 use Rattle.loader_agrees.specs.Agrees.{LoadedUser, Loaded, seen_by}
 
 -- ---- active segments

@@ -25,14 +25,14 @@ use Rattle.iigs_meaning.specs.Slide.{Slides, count_moved}
 use Rattle.load_meaning.specs.declared.load.LoadFault.{LoadFault}
 use Rattle.load_meaning.specs.declared.load.LoadCause.TheVariants as cause
 use Rattle.loader_machine.specs.declared.faults.LoaderFault.TheVariants.{NotJsl, NoTarget, NotEntry, CannotRead, BadFile, NoHandle, NoRoom}
-use Rattle.loader_machine.specs.Heads.{SegmentHead, head_of, at_number, is_static, is_table, want_of, wants_of, number_of, entry_in}
-use Rattle.loader_machine.specs.State.{Running, Dormant, HeldSegment, User, Machine, absent, fresh, UserSeen, empty_of, first_id, user_of, with_user, handles_of, held_at, outlines, named_by, is_attached, family, handles_of_all, with_all, without_all, ids_from}
+use Rattle.loader_machine.specs.Heads.{SegmentHead, head_of, at_number, is_static, is_table, want_of, wants_of, number_of, entry_in, some_if}
+use Rattle.loader_machine.specs.State.{Running, Dormant, HeldSegment, User, Machine, absent, fresh, UserSeen, empty_of, first_id, user_of, with_user, handles_of, held_at, outlines, named_by, is_attached, with_all, without_all, ids_from, handles_in}
 use Rattle.loader_machine.specs.Presences.{Absent, Purged, Idle, Active, presence_at, handle_at, is_there}
-use Rattle.loader_machine.specs.Stands.{AddressSetting, stands, setting_with, far_of, place_in}
+use Rattle.loader_machine.specs.Stands.{stands, setting_with, far_of, place_in}
 use Rattle.loader_machine.specs.Found.{HoldsLoad, FileFound, Unread, Bad, Good, IsFound, Joined, Stops, Joins, AreJoined}
-use Rattle.loader_machine.specs.Alloc.{alloc_want}
 use Rattle.loader_machine.specs.Commands.{Command, Banks, Load, LoadSegment, UnloadSegment, Jsl, ShutDown, Restart, Purge, Poke, Bytes, Where, Info, Alloc, Free, Lock, Unlock, Level, StateOf, Room, Compact, Reply, Okay, Started, MadeActive, Entered, Counted, Shown, Lies, Nothing, SegmentIs, Placed, BlockIs, RoomIs, Moved, Refused}
 use Rattle.loader_machine.specs.Refusals.{Refuse, load_refusal, rows_refusal, bytes_refusal, info_refusal, load_segment_refusal, unload_refusal, poke_refusal, shut_down_refusal, restart_refusal, purge_refusal, state_refusal, free_refusal, change_refusal}
+use Rattle.std.specs.List.{flat_map}
 -- ---- what is seen of users
 
 abbrev pub seen_of : User → List Segment → UserSeen
@@ -86,10 +86,6 @@ active_block block = record block { locked = true; level = 0 }
 abbrev pub idle_block : Block → Block
 idle_block block = record block { locked = false; level = 3 }
 
--- a block of a segment that is let go where it is active
-abbrev pub let_go : Block → Block
-let_go block = if is_some block.at && block.locked then idle_block block else block
-
 -- the slots with a handle's block changed, where it is live
 abbrev pub with_block_changed : (Block → Block) → Slots → Handle → Slots
 with_block_changed change slots h = option_map_or (λ block. with_value slots h (change block)) (get slots h) slots
@@ -118,10 +114,6 @@ held_of_heads (head ∷ heads) (h ∷ hs) = if is_static head then fresh (Some h
 abbrev pub entry_of : ℕ → Slots → List SegmentHead → List (Option Handle) → Option ℕ
 entry_of id slots heads handles = entry_in heads (place_in slots handles) 1
 
--- a running user whose static segments have these handles
-abbrev pub started_user : List ℕ → List SegmentHead → List Handle → User
-started_user path heads handles = record { path = path; life = Running; segments = held_of_heads heads handles; attached = [] }
-
 -- a program begins: its static segments are placed among these slots, in order of number
 pub record Begins (Makes : MakesRoom) (state : Machine) (slots : Slots) (path : List ℕ) (id : ℕ) (segments : List Segment) (users : User → List (Option User)) (reply : Reply) (next : Machine) : Type 0 where
   pub put : Put
@@ -133,7 +125,7 @@ pub record Begins (Makes : MakesRoom) (state : Machine) (slots : Slots) (path : 
   pub lands : let heads = map head_of segments in elim put as (λ outcome. Type 0) [
     | NoSlots ↦ (reply ≡ Refused NoHandle) × (next ≡ state)
     | Lacks i ↦ (reply ≡ Refused (NoRoom (number_of 1 heads i))) × (next ≡ state)
-    | PutIn handles last ↦ let user = started_user path heads handles in
+    | PutIn handles last ↦ let user : User = record { path = path; life = Running; segments = held_of_heads heads handles; attached = [] } in
         (reply ≡ Started id (entry_of id last heads (handles_of user)))
         × (next ≡ record { banks = state.banks; slots = last; users = users user })
   ]
@@ -219,15 +211,13 @@ pub record MakesActive (Makes : MakesRoom) (held : FileMap) (state : Machine) (i
 
 -- ---- the content of a user's segment
 
--- where the segments of the user of an ID are, and where those that its table names
-abbrev pub setting_in : Machine → ℕ → User → AddressSetting
-setting_in state id user = setting_with (far_of state.slots (outlines state.users) id) id state.slots (handles_of user)
-
+-- the segment with a number has this content, by where the segments of the user are, and those that its table names
 pub record StandsIn (held : FileMap) (state : Machine) (id number : ℕ) (bytes : List ℕ) : Type 0 where
   pub sees : Sees held state id
   pub s : Segment
   pub is : segment_at sees.segments number ≡ Some s
-  pub bytes_are : bytes ≡ stands (setting_in state id sees.user) (held_at sees.user number).pokes s
+  pub bytes_are : bytes ≡ stands (setting_with (far_of state.slots (outlines state.users) id) id state.slots (handles_of sees.user))
+      (held_at sees.user number).pokes s
 
 -- ---- where an address lies
 
@@ -295,13 +285,14 @@ without_users slots (id ∷ ids) = without_users (without_user slots id) ids
 abbrev pub StepsShutDown : Machine → ℕ → Bool → User → Machine → Type 0
 StepsShutDown state id true user next = next ≡ record {
   banks = state.banks;
-  slots = changed_all let_go state.slots (handles_of_all (outlines state.users) (family id user.attached));
-  users = with_all (λ one. record one { life = Dormant }) state.users (family id user.attached);
+  slots = changed_all (λ block. if is_some block.at && block.locked then idle_block block else block) state.slots
+      (flat_map (handles_in (outlines state.users)) (user.attached ++ id ∷ []));
+  users = with_all (λ one. record one { life = Dormant }) state.users (user.attached ++ id ∷ []);
 }
 StepsShutDown state id false user next = next ≡ record {
   banks = state.banks;
-  slots = without_users state.slots (family id user.attached);
-  users = without_all state.users (family id user.attached);
+  slots = without_users state.slots (user.attached ++ id ∷ []);
+  users = without_all state.users (user.attached ++ id ∷ []);
 }
 
 -- every static segment is there
@@ -389,7 +380,15 @@ Steps Makes held state (Info id number) reply next = Does held state id (λ seen
     (λ user. (sees : Sees held state id) × (s : Segment) × (segment_at sees.segments number ≡ Some s)
     × (reply ≡ SegmentIs (presence_at state.slots (handles_of user) number) s.fields.length s.fields.kind) × (next ≡ state))
 Steps Makes held state (Alloc size attributes address) reply next =
-    StepsAlloc Makes state (alloc_want size attributes address) (has_attribute 0x8000 attributes) (attributes / 0x100 % 4)
+    StepsAlloc Makes state (record {
+      size = size;
+      align = if has_attribute 0x0004 attributes then 0x100 else 1;
+      no_cross = has_attribute 0x0010 attributes;
+      no_special = has_attribute 0x0008 attributes;
+      at = some_if (has_attribute 0x0002 attributes) address;
+      bank = some_if (has_attribute 0x0001 attributes) (address / 0x10000);
+      low = None;
+    }) (has_attribute 0x8000 attributes) (attributes / 0x100 % 4)
     (not (has_attribute 0x4000 attributes) && not (has_attribute 0x0002 attributes) && not (has_attribute 0x0001 attributes)) reply next
 Steps Makes held state (Free h) reply next = Decides (free_refusal state.slots h) state reply next
     ((reply ≡ Okay) × (next ≡ with_slots state (after_release state.slots h)))

@@ -27,8 +27,8 @@ use Rattle.loader_machine.specs.Presences.{handle_at, presence, presence_at, act
 use Rattle.loader_machine.specs.Stands.{setting, far_of}
 use Rattle.loader_machine.specs.Found.{HoldsLoad}
 use Rattle.loader_machine.specs.Commands.{Started}
-use Rattle.loader_machine.specs.Steps.{PutIn, Begins, started_user, lost_refusal}
-use Rattle.loader_machine.specs.laws.Words.{again_users}
+use Rattle.loader_machine.specs.Steps.{PutIn, Begins, lost_refusal}
+use Rattle.loader_machine.specs.laws.Words.{started_user, again_users}
 use Rattle.loader_agrees.specs.Agrees.{LoadedUser, Loaded, outline, kept_outlines, IsJoined, AreAttached, UserAgrees, Agrees, IsCall, IsSound}
 use Rattle.loader_agrees.specs.laws.Words.{far_in}
 use Rattle.loader_agrees.specs.Acts.{IsAdded, started_kept}

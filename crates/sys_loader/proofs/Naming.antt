@@ -29,11 +29,11 @@ use Rattle.loader_machine.specs.Heads.{head_of, is_static}
 use Rattle.loader_machine.specs.State.{Pokes, User, Machine, handles_of, held_at}
 use Rattle.loader_machine.specs.Presences.{presence_at, there_at, is_active}
 use Rattle.loader_machine.specs.Stands.{AddressSetting, place_in, over_from, stands}
-use Rattle.loader_machine.specs.laws.Words.{with_pokes, read_bytes, entries_bytes}
+use Rattle.loader_machine.specs.laws.Words.{with_pokes, read_bytes, entries_bytes, setting_in}
 use Rattle.loader_machine.specs.Found.{HoldsLoad}
 use Rattle.loader_machine.specs.Commands.{Where, Lies}
 use Rattle.loader_machine.specs.laws.OnceLaws.{one_load}
-use Rattle.loader_machine.specs.Steps.{IsAt, setting_in}
+use Rattle.loader_machine.specs.Steps.{IsAt}
 use Rattle.loader_agrees.specs.Agrees.{Outline, Loaded, Agrees, IsSound, Met}
 use Rattle.loader_agrees.specs.Acts.{LiesIn}
 use Rattle.loader_agrees.specs.laws.Apart.{back, steps_once_there}

@@ -9,8 +9,9 @@ use Rattle.loader_machine.specs.Heads.{is_table}
 use Rattle.loader_machine.specs.Refusals.{purge_refusal, poke_refusal, unload_refusal, shut_down_refusal}
 use Rattle.loader_machine.specs.Commands.{Reply, Counted, Refused}
 use Rattle.loader_machine.specs.declared.seen.Life.TheVariants.{Running, Dormant}
-use Rattle.loader_machine.specs.State.{user_of, led_by, is_attached, family, handles_of_all, with_all, without_all}
-use Rattle.loader_machine.specs.Steps.{idle_block, let_go, changed_all, without_users}
+use Rattle.loader_machine.specs.State.{user_of, led_by, is_attached, with_all, without_all}
+use Rattle.loader_machine.specs.Steps.{idle_block, changed_all, without_users}
+use Rattle.loader_machine.specs.laws.Words.{family, handles_of_all, let_go}
 use Rattle.loader_agrees.specs.Agrees.{LoadedUser, Loaded, kept_outlines, seen_by}
 use Rattle.loader_agrees.specs.Acts.{IsActive}
 use Rattle.loader_users.specs.Renewing.{AreRenewed}

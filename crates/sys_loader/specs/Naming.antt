@@ -9,7 +9,8 @@ use Rattle.loader_machine.specs.declared.seen.Life.TheVariants.{Running}
 use Rattle.loader_machine.specs.State.{Machine, handles_of, held_at}
 use Rattle.loader_machine.specs.Presences.{presence_at, is_active}
 use Rattle.loader_machine.specs.Stands.{place_in, stands}
-use Rattle.loader_machine.specs.Steps.{Sees, setting_in}
+use Rattle.loader_machine.specs.Steps.{Sees}
+use Rattle.loader_machine.specs.laws.Words.{setting_in}
 use Rattle.sys_loader.specs.declared.answers.Entered.{Entered}
 
 -- Three neighbouring cells of an active segment of a user that runs are the three bytes of a target's place plus an offset, the

@@ -4,22 +4,22 @@ use Rattle.iigs_meaning.specs.declared.faults.PlaceFault.TheVariants as place
 use Rattle.loader_machine.specs.Heads as headers
 use Rattle.omf_format.specs.Header as header
 use Rattle.loader_machine.specs.Presences.{Absent, Active, Idle, Purged, active_at, presence_at}
-use Rattle.loader_machine.specs.Steps.{Activation, AddressPlace, Begins, Decides, Either, In, Lacks, Made, MakesActive, NoSlots, Nowhere, OutOfRoom, OutOfSlots, Put, PutIn, Sees, active_block, are_there, changed_all, entry_of, idle_block, joined_users, let_go, lost_refusal, read_again, started_user, static_handles, target_at_code, with_block_changed, with_both, with_segment, with_slots, without_users}
-use Rattle.loader_machine.specs.Stands.{AddressSetting, Far, over_from}
+use Rattle.loader_machine.specs.Steps.{Activation, AddressPlace, Begins, Decides, Either, In, Lacks, Made, MakesActive, NoSlots, Nowhere, OutOfRoom, OutOfSlots, Put, PutIn, Sees, active_block, are_there, changed_all, entry_of, idle_block, joined_users, lost_refusal, read_again, static_handles, target_at_code, with_block_changed, with_both, with_segment, with_slots, without_users, held_of_heads}
+use Rattle.loader_machine.specs.Stands.{AddressSetting, Far, over_from, far_of, setting_with}
 use Rattle.loader_machine.specs.Commands.{Alloc, Banks, Bytes, Command, Compact, Entered, Jsl, Lies, Load, Nothing, Poke, Refused, Reply, Room, ShutDown, Started}
-use Rattle.loader_machine.specs.Found.{AreJoined, Bad, FileFound, Good, HoldsFile, HoldsRuntime, HoldsRuntimeFault, Joined, Joins, Stops, Unread, joined_after}
+use Rattle.loader_machine.specs.Found.{AreJoined, Bad, FileFound, Good, HoldsFile, HoldsRuntime, HoldsRuntimeFault, Joined, Joins, Stops, Unread}
 use Rattle.loader_machine.specs.declared.faults.LoaderFault.TheVariants.{BadFile, CannotRead, Empty, NoHandle, NoRoom, NoSegment, NoTarget, NotEntry, TableByte}
 use Rattle.loader_machine.specs.declared.script.ScriptCause.TheVariants.{BadNumber, BankTwice, BanksFirst, UnknownCommand, WrongCount}
 use Rattle.iigs_meaning.specs.declared.wants.Block.{Block}
 use Rattle.iigs_meaning.specs.declared.wants.BlockState.{BlockState}
-use Rattle.std.specs.Prelude.{Bool, Err, IsSome, List, None, Ok, Option, Result, Some, [], bytes_eq, codes, count_by, false, filter, if◌then◌else◌, length, map, max, nat_le, nat_lt, not, slice_get, true, ℕ, ◌%◌, ◌&&◌, ◌++◌, ◌+◌, ◌-◌, ◌/◌, ◌==◌, ◌||◌, ◌∷◌, ◌≡◌, ◌≤◌}
+use Rattle.std.specs.Prelude.{Bool, Err, IsSome, List, None, Ok, Option, Result, Some, [], bytes_eq, codes, count_by, false, filter, if◌then◌else◌, length, map, max, nat_le, nat_lt, not, slice_get, true, ℕ, ◌%◌, ◌&&◌, ◌++◌, ◌+◌, ◌-◌, ◌/◌, ◌==◌, ◌||◌, ◌∷◌, ◌≡◌, ◌≤◌, is_some}
 use Rattle.loader_machine.specs.declared.script.CommandName.{CommandName}
 use Rattle.load_meaning.specs.declared.table.Entry.{Entry}
 use Rattle.omf_io.specs.Files.{FileMap}
 use Rattle.iigs_meaning.specs.declared.handles.Handle.{Handle}
 use Rattle.iigs_meaning.specs.Puts.{IsPlaceAllRefusal, LacksRoom, MakesRoom, Puts, PutsAll, PutsAnew}
 use Rattle.load_meaning.specs.declared.load.LoadFault.{LoadFault}
-use Rattle.loader_machine.specs.State.{Machine, Pokes, Running, Dormant, User, UserSeen, absent, family, first_id, fresh, handles_of, handles_of_all, ids_from, named_by, outlines, with_all, with_user, without_all}
+use Rattle.loader_machine.specs.State.{Machine, Pokes, Running, Dormant, User, UserSeen, absent, first_id, fresh, handles_of, ids_from, named_by, outlines, with_all, with_user, without_all, Outline, handles_in}
 use Rattle.loader_machine.specs.declared.seen.Presence.{Presence}
 use Rattle.loader_machine.specs.Refusals.{Refuse, rows_refusal}
 use Rattle.loader_machine.specs.declared.script.ScriptCause.{ScriptCause}
@@ -94,6 +94,10 @@ no_far_segment file number = None
 abbrev pub target_with : Far → Slots → List (Option Handle) → ℕ → ℕ → Option ℕ
 target_with far slots handles file number = if file == 1 then active_at (presence_at slots handles number) else far file number
 
+-- where the segments of the user of an ID are, and where those that its table names
+abbrev pub setting_in : Machine → ℕ → User → AddressSetting
+setting_in state id user = setting_with (far_of state.slots (outlines state.users) id) id state.slots (handles_of user)
+
 -- ---- wants
 
 -- direct page and stack
@@ -136,6 +140,18 @@ plain_want head = record {
   low = some_if (fixes_low head) (head.org % 0x10000);
 }
 
+-- what ATTR and the address ask of a block's place
+abbrev pub alloc_want : ℕ → ℕ → ℕ → Want
+alloc_want size attributes address = record {
+  size = size;
+  align = if has_attribute 0x0004 attributes then 0x100 else 1;
+  no_cross = has_attribute 0x0010 attributes;
+  no_special = has_attribute 0x0008 attributes;
+  at = some_if (has_attribute 0x0002 attributes) address;
+  bank = some_if (has_attribute 0x0001 attributes) (address / 0x10000);
+  low = None;
+}
+
 -- the bit of ATTR for a locked block
 abbrev pub is_locked : ℕ → Bool
 is_locked attributes = has_attribute 0x8000 attributes
@@ -155,6 +171,11 @@ abbrev pub IsRowFound : FileMap → List ℕ → FileFound → Type 0
 IsRowFound held path Unread = (file : List ℕ) → ¬ HoldsFile held path file
 IsRowFound held path (Bad fault) = HoldsRuntimeFault held path fault
 IsRowFound held path (Good segments) = HoldsRuntime held path segments
+
+-- the outcome where one file more, of these segments, is read before the others
+abbrev pub joined_after : List Segment → Joined → Joined
+joined_after segments (Stops reads why) = Stops (reads + 1) why
+joined_after segments (Joins all) = Joins (segments ∷ all)
 
 -- by what the read of the first row finds, where `Rest` holds of the outcome of the others
 abbrev pub JoinsFound : FileFound → (Joined → Type 0) → Joined → Type 0
@@ -190,6 +211,10 @@ abbrev pub IsPut : MakesRoom → List ℕ → ℕ → Slots → List Want → Pu
 IsPut Makes banks user slots wants NoSlots = IsPlaceAllRefusal Makes banks user slots wants place.NoHandle
 IsPut Makes banks user slots wants (Lacks i) = IsPlaceAllRefusal Makes banks user slots wants (place.NoRoom i)
 IsPut Makes banks user slots wants (PutIn handles last) = (length wants ≤ count_by is_free slots) × PutsAll Makes banks user slots wants handles last
+
+-- a running user whose static segments have these handles
+abbrev pub started_user : List ℕ → List SegmentHead → List Handle → User
+started_user path heads handles = record { path = path; life = Running; segments = held_of_heads heads handles; attached = [] }
 
 -- the static segments of a program are placed, and the users are these then
 abbrev pub Lands : Machine → List ℕ → ℕ → List SegmentHead → (User → List (Option User)) → Put → Reply → Machine → Type 0
@@ -300,6 +325,18 @@ abbrev pub with_segment_idle : Slots → Option Handle → Slots
 with_segment_idle slots None = slots
 with_segment_idle slots (Some h) = with_block_changed idle_block slots h
 
+-- a block of a segment that is let go where it is active
+abbrev pub let_go : Block → Block
+let_go block = if is_some block.at && block.locked then idle_block block else block
+
+-- the users that are attached to a user, and it itself
+abbrev pub family : ℕ → List ℕ → List ℕ
+family id attached = attached ++ id ∷ []
+
+-- the handles of all segments of these users
+abbrev pub handles_of_all : List (Option Outline) → List ℕ → List (Option Handle)
+handles_of_all users ids = flat_map (handles_in users) ids
+
 -- a user that doesn't run
 abbrev pub dormant_user : User → User
 dormant_user user = record user { life = Dormant }
@@ -388,6 +425,11 @@ is_hex_digit byte = (nat_le ascii.digit_0 byte && nat_le byte ascii.digit_9) || 
 -- a line of at most 1,023 bytes, which are words with one space between them
 abbrev pub is_well_formed : List ℕ → Bool
 is_well_formed line = nat_le (length line) 1023 && list_all is_word (words_of line)
+
+-- no command was given yet
+abbrev pub is_start : List Command → Bool
+is_start [] = true
+is_start (command ∷ commands) = false
 
 -- the lines that aren't skipped
 abbrev pub written : List (List ℕ) → List (List ℕ)
