@@ -7,15 +7,21 @@ use Rattle.iigs_meaning.specs.Fits.{Slots}
 use Rattle.loader_machine.specs.Heads.{at_number}
 pub use Rattle.loader_machine.specs.declared.seen.Presence.{Presence}
 pub use Rattle.loader_machine.specs.declared.seen.Presence.TheVariants.{Absent, Purged, Idle, Active}
+use Rattle.iigs_meaning.specs.declared.wants.Block.{Block}
 
--- The presence of a segment, from its handle and the slots: absent without a block, purged where its block is empty, active where the block
--- is locked, and else idle.
+-- an empty block is purged, one that is locked is active, and any other idle
+abbrev pub lies_at : Handle → Option ℕ → Bool → Presence
+lies_at h None locked = Purged h
+lies_at h (Some address) locked = if locked then Active h address else Idle h address
+
+abbrev pub lies_in : Handle → Option Block → Presence
+lies_in h None = Absent
+lies_in h (Some block) = lies_at h block.at block.locked
+
+-- the presence of a segment, from its handle and the slots
 abbrev pub presence : Slots → Option Handle → Presence
 presence slots None = Absent
-presence slots (Some h) = elim (get slots h) [
-  | None ↦ Absent
-  | Some block ↦ elim block.at [ None ↦ Purged h | Some address ↦ if block.locked then Active h address else Idle h address ]
-]
+presence slots (Some h) = lies_in h (get slots h)
 
 -- the handle of the segment with a number
 abbrev pub handle_at : List (Option Handle) → ℕ → Option Handle

@@ -14,8 +14,7 @@ use Rattle.loader_machine.specs.declared.seen.SegmentHead.{SegmentHead}
 use Rattle.loader_machine.specs.declared.seen.Presence.TheVariants.{Active}
 use Rattle.loader_machine.specs.Heads.{at_number}
 use Rattle.loader_machine.specs.State.{first_id, user_of}
-use Rattle.loader_machine.specs.Presences.{handle_at, presence}
-use Rattle.loader_machine.specs.laws.Words.{lies_in, lies_at}
+use Rattle.loader_machine.specs.Presences.{handle_at, presence, lies_in, lies_at}
 use Rattle.loader_agrees.specs.Agrees.{LoadedUser, Loaded, IsSound}
 use Rattle.loader_agrees.specs.Acts.{LiesIn}
 use Rattle.loader_agrees.specs.laws.Lists.{number_map}

@@ -22,8 +22,7 @@ use Rattle.loader_machine.specs.declared.seen.Life.TheVariants.{Running, Dormant
 use Rattle.loader_machine.specs.Heads.{head_of, at_number, is_static, is_table}
 use Rattle.loader_machine.specs.State.{User, Machine, Outline, first_id, user_of, attached_at, handles_in}
 use Rattle.loader_machine.specs.declared.seen.Presence.{Presence}
-use Rattle.loader_machine.specs.Presences.{handle_at, presence, presence_at, there_at, active_at, is_active}
-use Rattle.loader_machine.specs.laws.Words.{lies_in, lies_at}
+use Rattle.loader_machine.specs.Presences.{handle_at, presence, presence_at, there_at, active_at, is_active, lies_in, lies_at}
 use Rattle.loader_machine.specs.Stands.{Far, setting_with, far_of}
 use Rattle.load_meaning.specs.LoadTable.{target_at, entry_count}
 use Rattle.load_meaning.specs.Table.{entry_start}

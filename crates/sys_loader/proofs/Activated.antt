@@ -23,8 +23,8 @@ use Rattle.loader_machine.specs.declared.seen.Presence.{Presence}
 use Rattle.loader_machine.specs.declared.seen.Presence.TheVariants.{Absent, Purged, Idle, Active}
 use Rattle.loader_machine.specs.Heads.{head_of, at_number, is_table, want_of}
 use Rattle.loader_machine.specs.State.{Machine, UserSeen, fresh, first_id, handles_of, is_attached, led_by}
-use Rattle.loader_machine.specs.Presences.{handle_at, presence, presence_at, active_at}
-use Rattle.loader_machine.specs.laws.Words.{lies_in, lies_at, Activates, Answers}
+use Rattle.loader_machine.specs.Presences.{handle_at, presence, presence_at, active_at, lies_in, lies_at}
+use Rattle.loader_machine.specs.laws.Words.{Activates, Answers}
 use Rattle.loader_machine.specs.Found.{HoldsLoad}
 use Rattle.loader_machine.specs.laws.OnceLaws.{one_load}
 use Rattle.loader_machine.specs.Commands.{Reply, LoadSegment, MadeActive, Refused}

@@ -17,8 +17,7 @@ use Rattle.loader_machine.specs.Rule.{RoomRule}
 use Rattle.iigs_meaning.specs.Memory.{Memory, IsPlaced, IsReplaced, Changes, bytes_at}
 use Rattle.loader_machine.specs.declared.seen.SegmentHead.{SegmentHead}
 use Rattle.loader_machine.specs.Heads.{want_of}
-use Rattle.loader_machine.specs.Presences.{presence, there_at}
-use Rattle.loader_machine.specs.laws.Words.{lies_in}
+use Rattle.loader_machine.specs.Presences.{presence, there_at, lies_in}
 use Rattle.loader_machine.specs.Steps.{active_block}
 use Rattle.loader_agrees.specs.Agrees.{Loaded, Has, IsSound}
 use Rattle.loader_agrees.specs.laws.Begun.{puts_here}

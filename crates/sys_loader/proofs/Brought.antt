@@ -22,8 +22,8 @@ use Rattle.iigs_meaning.specs.Memory.{Memory, bytes_at}
 use Rattle.loader_machine.specs.declared.seen.SegmentHead.{SegmentHead}
 use Rattle.loader_machine.specs.Heads.{head_of, at_number}
 use Rattle.loader_machine.specs.State.{no_pokes, first_id, user_of, with_user, led_by}
-use Rattle.loader_machine.specs.Presences.{handle_at, presence, there_at}
-use Rattle.loader_machine.specs.laws.Words.{lies_in, lies_at, no_far_segment, target_with}
+use Rattle.loader_machine.specs.Presences.{handle_at, presence, there_at, lies_in, lies_at}
+use Rattle.loader_machine.specs.laws.Words.{no_far_segment, target_with}
 use Rattle.loader_machine.specs.Stands as machine
 use Rattle.loader_machine.specs.Stands.{AddressSetting, setting, stands}
 use Rattle.loader_machine.specs.laws.StandsLaws.{AreAlike, stands_alike}

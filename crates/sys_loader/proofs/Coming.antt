@@ -21,8 +21,7 @@ use Rattle.loader_machine.specs.declared.seen.SegmentHead.{SegmentHead}
 use Rattle.loader_machine.specs.declared.seen.Life.TheVariants.{Running, Dormant}
 use Rattle.loader_machine.specs.Heads.{head_of, at_number, is_static, is_table, want_of}
 use Rattle.loader_machine.specs.State.{Pokes, HeldSegment, User, Machine, absent, fresh, no_pokes, first_id, user_of, with_user, held_at, attached_at, handles_in}
-use Rattle.loader_machine.specs.Presences.{handle_at, presence, presence_at, there_at, active_at, is_active}
-use Rattle.loader_machine.specs.laws.Words.{lies_in, lies_at}
+use Rattle.loader_machine.specs.Presences.{handle_at, presence, presence_at, there_at, active_at, is_active, lies_in, lies_at}
 use Rattle.loader_machine.specs.Stands.{Far, setting, setting_with, stands}
 use Rattle.loader_machine.specs.laws.StandsLaws.{AreAlike, stands_alike}
 use Rattle.loader_machine.specs.Steps.{with_both, with_segment}

@@ -21,8 +21,8 @@ use Rattle.loader_machine.specs.declared.seen.SegmentHead.{SegmentHead}
 use Rattle.loader_machine.specs.declared.seen.Life.TheVariants.{Running, Dormant}
 use Rattle.loader_machine.specs.Heads.{at_number, is_static, is_table}
 use Rattle.loader_machine.specs.State.{User, Machine, Outline, outline_of, outlines, first_id, user_of, with_user, without_all, attached_at, is_attached, handles_in}
-use Rattle.loader_machine.specs.laws.Words.{family, lies_in, dropped_state}
-use Rattle.loader_machine.specs.Presences.{handle_at, presence, presence_at, there_at, active_at, is_active}
+use Rattle.loader_machine.specs.laws.Words.{family, dropped_state}
+use Rattle.loader_machine.specs.Presences.{handle_at, presence, presence_at, there_at, active_at, is_active, lies_in}
 use Rattle.loader_machine.specs.Stands.{far_of}
 use Rattle.loader_machine.specs.Refusals.{shut_down_refusal}
 use Rattle.loader_machine.specs.Commands.{Okay, ShutDown}

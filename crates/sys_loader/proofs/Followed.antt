@@ -24,8 +24,8 @@ use Rattle.loader_machine.specs.Heads.{head_of, at_number, is_table}
 use Rattle.loader_machine.specs.State.{Machine, Outline, outlines, first_id, user_of, named_by, handles_of, held_at}
 use Rattle.loader_machine.specs.declared.seen.Presence.{Presence}
 use Rattle.loader_machine.specs.declared.seen.Presence.TheVariants.{Absent, Purged, Idle, Active}
-use Rattle.loader_machine.specs.Presences.{presence, presence_at, there_at}
-use Rattle.loader_machine.specs.laws.Words.{lies_in, lies_at, entry_for, Enters, EntersEntry}
+use Rattle.loader_machine.specs.Presences.{presence, presence_at, there_at, lies_in, lies_at}
+use Rattle.loader_machine.specs.laws.Words.{entry_for, Enters, EntersEntry}
 use Rattle.loader_machine.specs.Stands.{AddressSetting, setting_with, stands}
 use Rattle.loader_machine.specs.Refusals.{Refuse, bytes_refusal, load_segment_refusal}
 use Rattle.loader_machine.specs.Steps.{Sees, StandsIn, IsAt, AddressPlace, Nowhere, In, IsLocated, Decides, Either, no_jsl, address_of, target_at_code, MakesActive, StepsJsl}

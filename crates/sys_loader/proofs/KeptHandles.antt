@@ -5,8 +5,7 @@ use Rattle.std.specs.Option.{option_and_then}
 use Rattle.iigs_meaning.specs.declared.handles.Handle.{Handle}
 use Rattle.iigs_meaning.specs.declared.wants.Block.{Block}
 use Rattle.iigs_meaning.specs.Memory.{Memory, bytes_at}
-use Rattle.loader_machine.specs.Presences.{handle_at, presence, there_at, active_at, is_active}
-use Rattle.loader_machine.specs.laws.Words.{lies_in, lies_at}
+use Rattle.loader_machine.specs.Presences.{handle_at, presence, there_at, active_at, is_active, lies_in, lies_at}
 use Rattle.loader_agrees.specs.Agrees.{LoadedUser}
 use Rattle.loader_agrees.specs.laws.Frame.{Keeps, Same, Gone, unlocked}
 use Rattle.loader_agrees.specs.laws.Lists.{set_at, set_apart}

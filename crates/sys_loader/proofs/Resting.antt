@@ -23,9 +23,9 @@ use Rattle.loader_machine.specs.declared.seen.Presence.{Presence}
 use Rattle.loader_machine.specs.declared.seen.Presence.TheVariants.{Absent, Purged, Idle, Active}
 use Rattle.loader_machine.specs.Heads.{head_of, at_number, is_static, is_table}
 use Rattle.loader_machine.specs.State.{User, Machine, UserSeen, Outline, outline_of, outlines, first_id, user_of, handles_in, with_all, attached_at, is_attached}
-use Rattle.loader_machine.specs.laws.Words.{family, handles_of_all, lies_in, lies_at, kept_state, let_go}
+use Rattle.loader_machine.specs.laws.Words.{family, handles_of_all, kept_state, let_go}
 use Rattle.loader_machine.specs.laws.Words as words
-use Rattle.loader_machine.specs.Presences.{handle_at, presence, presence_at, there_at, active_at, is_active}
+use Rattle.loader_machine.specs.Presences.{handle_at, presence, presence_at, there_at, active_at, is_active, lies_in, lies_at}
 use Rattle.loader_machine.specs.Stands.{setting_with, far_of}
 use Rattle.loader_machine.specs.Refusals.{shut_down_refusal}
 use Rattle.loader_machine.specs.Commands.{Okay, ShutDown}

@@ -22,8 +22,7 @@ use Rattle.loader_machine.specs.State.{HeldSegment, User, Machine, fresh, absent
 use Rattle.loader_machine.specs.laws.Words as words
 use Rattle.loader_machine.specs.declared.seen.Presence.{Presence}
 use Rattle.loader_machine.specs.declared.seen.Presence.TheVariants.{Absent, Purged, Idle, Active}
-use Rattle.loader_machine.specs.Presences.{handle_at, presence, presence_at, there_at, active_at, is_active, is_there}
-use Rattle.loader_machine.specs.laws.Words.{lies_in, lies_at}
+use Rattle.loader_machine.specs.Presences.{handle_at, presence, presence_at, there_at, active_at, is_active, is_there, lies_in, lies_at}
 use Rattle.loader_machine.specs.Stands.{AddressSetting, setting, setting_with, far_of, stands}
 use Rattle.loader_machine.specs.laws.StandsLaws.{AreAlike, stands_alike}
 use Rattle.loader_machine.specs.Steps.{active_block, changed_all, are_there, static_handles, is_read_again, read_again}

@@ -13,8 +13,7 @@ use Rattle.iigs_meaning.specs.Fits.{Slots}
 use Rattle.iigs_meaning.specs.Blocks.{address_in}
 use Rattle.iigs_meaning.specs.Memory.{Memory, Changes}
 use Rattle.loader_machine.specs.Heads.{at_number, is_static}
-use Rattle.loader_machine.specs.Presences.{handle_at, presence, is_there}
-use Rattle.loader_machine.specs.laws.Words.{lies_in, lies_at}
+use Rattle.loader_machine.specs.Presences.{handle_at, presence, is_there, lies_in, lies_at}
 use Rattle.loader_machine.specs.Steps.{active_block, with_block_changed, changed_all, are_there, static_handles, is_read_again}
 use Rattle.loader_machine.specs.Needs.{some_read_again}
 use Rattle.loader_agrees.specs.laws.Begun.{decide}

@@ -12,8 +12,8 @@ use Rattle.loader_machine.specs.declared.faults.LoaderFault.{LoaderFault}
 use Rattle.loader_machine.specs.declared.faults.LoaderFault.TheVariants.{Static, NotActive}
 use Rattle.loader_machine.specs.declared.seen.SegmentHead.{SegmentHead}
 use Rattle.loader_machine.specs.State.{UserSeen, Machine, user_of, handles_of, led_by}
-use Rattle.loader_machine.specs.Presences.{handle_at, presence, there_at, active_at, is_active}
-use Rattle.loader_machine.specs.laws.Words.{lies_at, with_segment_idle}
+use Rattle.loader_machine.specs.Presences.{handle_at, presence, there_at, active_at, is_active, lies_at}
+use Rattle.loader_machine.specs.laws.Words.{with_segment_idle}
 use Rattle.loader_machine.specs.Refusals.{Refuse, of_user, of_running, of_segment, of_dynamic, of_active, unload_refusal}
 use Rattle.loader_machine.specs.Commands.{Okay, Refused, UnloadSegment}
 use Rattle.loader_machine.specs.Steps.{with_block_changed, idle_block, with_slots}

@@ -15,8 +15,7 @@ use Rattle.loader_machine.specs.declared.seen.Presence.{Presence}
 use Rattle.loader_machine.specs.declared.seen.Presence.TheVariants.{Idle}
 use Rattle.loader_machine.specs.Heads.{head_of}
 use Rattle.loader_machine.specs.State.{first_id, user_of, is_attached, led_by}
-use Rattle.loader_machine.specs.Presences.{presence}
-use Rattle.loader_machine.specs.laws.Words.{lies_in, lies_at}
+use Rattle.loader_machine.specs.Presences.{presence, lies_in, lies_at}
 use Rattle.loader_machine.specs.Steps.{active_block}
 use Rattle.loader_machine.specs.Needs.{is_read}
 use Rattle.loader_agrees.specs.Agrees.{LoadedUser, Loaded, kept_outlines, Has, IsSound}

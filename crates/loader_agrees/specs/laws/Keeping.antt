@@ -15,8 +15,7 @@ use Rattle.loader_machine.specs.Heads.{at_number, is_static, is_table}
 use Rattle.load_meaning.specs.LoadTable.{target_at, entry_count}
 use Rattle.loader_machine.specs.Stands.{far_of}
 use Rattle.loader_machine.specs.State.{Machine, first_id, user_of, attached_at, handles_in}
-use Rattle.loader_machine.specs.Presences.{handle_at, presence, presence_at, there_at, active_at, is_active}
-use Rattle.loader_machine.specs.laws.Words.{lies_in, lies_at}
+use Rattle.loader_machine.specs.Presences.{handle_at, presence, presence_at, there_at, active_at, is_active, lies_in, lies_at}
 use Rattle.loader_machine.specs.Steps.{with_slots}
 use Rattle.loader_agrees.specs.Agrees.{LoadedUser, Loaded, Outline, outline, kept_outlines, AreAttached, IsCall, Agrees, IsOf, Has, IsSegments, IsSound}
 use Rattle.loader_agrees.specs.laws.Words.{far_in, EntriesLead}

@@ -16,8 +16,7 @@ use Rattle.loader_machine.specs.declared.seen.Presence.TheVariants.{Active}
 use Rattle.iigs_meaning.specs.Fits.{Slots}
 use Rattle.loader_machine.specs.Heads.{head_of}
 use Rattle.loader_machine.specs.State.{User, Machine, UserSeen, first_id, user_of, handles_of}
-use Rattle.loader_machine.specs.Presences.{handle_at, presence}
-use Rattle.loader_machine.specs.laws.Words.{lies_in, lies_at}
+use Rattle.loader_machine.specs.Presences.{handle_at, presence, lies_in, lies_at}
 use Rattle.loader_machine.specs.Found.{HoldsLoad}
 use Rattle.loader_machine.specs.Refusals.{Refuse}
 use Rattle.loader_machine.specs.Steps as steps

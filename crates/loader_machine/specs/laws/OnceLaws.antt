@@ -22,8 +22,8 @@ use Rattle.iigs_meaning.specs.Slide.{count_moved}
 use Rattle.iigs_meaning.specs.laws.SlideLaws.{slides_once}
 use Rattle.loader_machine.specs.Heads.{SegmentHead, head_of, is_table, want_of, wants_of}
 use Rattle.loader_machine.specs.State.{User, Machine, UserSeen, fresh, held_at, first_id, user_of, handles_of}
-use Rattle.loader_machine.specs.Presences.{Presence, Absent, Purged, Idle, Active, presence, presence_at, handle_at}
-use Rattle.loader_machine.specs.laws.Words.{lies_in, lies_at, is_locked, level_in, is_movable, IsRowFound, JoinsFound, Lands, LoadsJoined, LoadsFound, begun_users, again_users, ComesAnew, ComesFirst, Activates, Answers, place_reply, EntersEntry, EntersSegment, Enters, RestartsInPlace, alloc_want, joined_after, setting_in}
+use Rattle.loader_machine.specs.Presences.{Presence, Absent, Purged, Idle, Active, presence, presence_at, handle_at, lies_in, lies_at}
+use Rattle.loader_machine.specs.laws.Words.{is_locked, level_in, is_movable, IsRowFound, JoinsFound, Lands, LoadsJoined, LoadsFound, begun_users, again_users, ComesAnew, ComesFirst, Activates, Answers, place_reply, EntersEntry, EntersSegment, Enters, RestartsInPlace, alloc_want, joined_after, setting_in}
 use Rattle.loader_machine.specs.Stands.{stands}
 use Rattle.loader_machine.specs.Found.{HoldsFile, HoldsLoad, HoldsFault, HoldsRuntime, HoldsRuntimeFault, FileFound, Unread, Bad, Good, IsFound, Joined, Stops, Joins, AreJoined}
 use Rattle.loader_machine.specs.Commands.{Command, Banks, Load, LoadSegment, UnloadSegment, Jsl, ShutDown, Restart, Purge, Poke, Bytes, Where, Info, Alloc, Free, Lock, Unlock, Level, StateOf, Room, Compact, Reply, Entered, Shown, SegmentIs, Placed, BlockIs, RoomIs, Moved}

@@ -41,16 +41,7 @@ use Rattle.std.specs.Option.{option_map, option_map_or}
 use Rattle.load_meaning.specs.Pathnames.{paths_of}
 use Rattle.loader_machine.specs.Needs.{some_read_again}
 use Rattle.load_meaning.specs.Table.{table_bytes}
--- ---- presences, refusals, settings
-
--- what a handle and the place of its block make of a segment
-abbrev pub lies_at : Handle → Option ℕ → Bool → Presence
-lies_at h at locked = elim at [ None ↦ Purged h | Some address ↦ if locked then Active h address else Idle h address ]
-
--- what a handle and its block make of a segment
-abbrev pub lies_in : Handle → Option Block → Presence
-lies_in h None = Absent
-lies_in h (Some block) = lies_at h block.at block.locked
+-- ---- refusals, settings
 
 -- the segment is there, and isn't skipped
 abbrev pub of_head : Option SegmentHead → (SegmentHead → Refuse) → Refuse
