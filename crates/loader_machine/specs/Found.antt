@@ -55,6 +55,11 @@ pub data Joined : Type 0 where
   Stops : (reads : ℕ) (why : LoaderFault) → Joined
   Joins : (all : List (List Segment)) → Joined
 
+-- the outcome where one file more, of these segments, is read before the others
+abbrev pub joined_after : List Segment → Joined → Joined
+joined_after segments (Stops reads why) = Stops (reads + 1) why
+joined_after segments (Joins all) = Joins (segments ∷ all)
+
 -- the outcome of the files at these paths, by what the read of the first one finds
 abbrev pub AreJoined : FileMap → List (List ℕ) → Joined → Type 0
 AreJoined held [] joined = joined ≡ Joins []
@@ -63,6 +68,5 @@ AreJoined held (path ∷ paths) joined = (found : FileFound)
     × (elim found [
       | Unread ↦ joined ≡ Stops 1 CannotRead
       | Bad fault ↦ joined ≡ Stops 1 (BadFile fault)
-      | Good segments ↦ (rest : Joined) × AreJoined held paths rest
-          × (joined ≡ elim rest [ Stops reads why ↦ Stops (reads + 1) why | Joins all ↦ Joins (segments ∷ all) ])
+      | Good segments ↦ (rest : Joined) × AreJoined held paths rest × (joined ≡ joined_after segments rest)
     ])

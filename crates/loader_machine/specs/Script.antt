@@ -213,6 +213,11 @@ pub data IsBad (before : ℕ) (is_first : Bool) (line : List ℕ) (cause : Scrip
   OneTooMany : before ≡ most_lines → cause ≡ TooManyLines → IsBad before is_first line cause
   NoCommand : before < most_lines → is_skipped line ≡ false → line_command is_first line ≡ Err cause → IsBad before is_first line cause
 
+-- no command was given yet
+abbrev pub is_start : List Command → Bool
+is_start [] = true
+is_start (command ∷ commands) = false
+
 -- the line with this number, from 1, is bad for this cause, and no line before it is bad
 pub record IsFirstBadLine (text : List ℕ) (number : ℕ) (cause : ScriptCause) : Type 0 where
   pub before : List (List ℕ)
@@ -222,7 +227,7 @@ pub record IsFirstBadLine (text : List ℕ) (number : ℕ) (cause : ScriptCause)
   pub number_is : number ≡ length before + 1
   pub commands : List Command
   pub good : AreGood before commands
-  pub bad : IsBad (length before) (elim commands [ [] ↦ true | command ∷ later ↦ false ]) line cause
+  pub bad : IsBad (length before) (is_start commands) line cause
 
 -- the first fault of a text that is no script
 abbrev pub HasScriptFault : List ℕ → ScriptFault → Type 0

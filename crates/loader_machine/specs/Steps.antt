@@ -86,6 +86,10 @@ active_block block = record block { locked = true; level = 0 }
 abbrev pub idle_block : Block → Block
 idle_block block = record block { locked = false; level = 3 }
 
+-- a block of a segment that is let go where it is active
+abbrev pub let_go : Block → Block
+let_go block = if is_some block.at && block.locked then idle_block block else block
+
 -- the slots with a handle's block changed, where it is live
 abbrev pub with_block_changed : (Block → Block) → Slots → Handle → Slots
 with_block_changed change slots h = option_map_or (λ block. with_value slots h (change block)) (get slots h) slots
@@ -285,7 +289,7 @@ without_users slots (id ∷ ids) = without_users (without_user slots id) ids
 abbrev pub StepsShutDown : Machine → ℕ → Bool → User → Machine → Type 0
 StepsShutDown state id true user next = next ≡ record {
   banks = state.banks;
-  slots = changed_all (λ block. if is_some block.at && block.locked then idle_block block else block) state.slots
+  slots = changed_all let_go state.slots
       (flat_map (handles_in (outlines state.users)) (user.attached ++ id ∷ []));
   users = with_all (λ one. record one { life = Dormant }) state.users (user.attached ++ id ∷ []);
 }

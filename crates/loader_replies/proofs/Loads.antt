@@ -11,8 +11,7 @@ use Rattle.loader_machine.specs.declared.faults.LoaderFault.{LoaderFault}
 use Rattle.loader_machine.specs.declared.faults.LoaderFault.TheVariants as faults
 use Rattle.loader_machine.specs.Heads.{head_of}
 use Rattle.loader_machine.specs.State.{Machine, first_id}
-use Rattle.loader_machine.specs.Found.{Joined, Stops, Joins}
-use Rattle.loader_machine.specs.laws.Words.{joined_after}
+use Rattle.loader_machine.specs.Found.{Joined, Stops, Joins, joined_after}
 use Rattle.loader_machine.specs.Commands as commands
 use Rattle.loader_machine.specs.Commands.{Load, Reply}
 use Rattle.loader_machine.specs.Replies.{reply_line}

@@ -18,7 +18,7 @@ use Rattle.loader_machine.specs.declared.seen.SegmentHead.{SegmentHead}
 use Rattle.loader_machine.specs.declared.seen.Life.{Life}
 use Rattle.loader_machine.specs.declared.seen.Life.TheVariants.{Running}
 use Rattle.loader_machine.specs.Heads.{head_of, at_number, want_of, wants_of, entry_in}
-use Rattle.loader_machine.specs.laws.Words.{is_stack, stack_want, plain_want}
+use Rattle.loader_machine.specs.laws.Words.{is_stack}
 use Rattle.loader_machine.specs.State.{no_pokes, first_id, max_users, ids_from}
 use Rattle.loader_machine.specs.Presences.{handle_at}
 use Rattle.loader_machine.specs.Stands.{setting, stands, place_in}

@@ -14,8 +14,7 @@ use Rattle.loader_machine.specs.declared.faults.LoaderFault.TheVariants as fault
 use Rattle.loader_machine.specs.declared.seen.SegmentHead.{SegmentHead}
 use Rattle.loader_machine.specs.Heads.{head_of}
 use Rattle.loader_machine.specs.State.{first_id, max_users, ids_from}
-use Rattle.loader_machine.specs.Found.{Joined, Stops, Joins}
-use Rattle.loader_machine.specs.laws.Words.{joined_after}
+use Rattle.loader_machine.specs.Found.{Joined, Stops, Joins, joined_after}
 use Rattle.loader_machine.specs.Steps.{lost_in, lost_refusal}
 use Rattle.loader_agrees.specs.Agrees.{LoadedUser, Loaded}
 use Rattle.loader_agrees.specs.Acts.{HasBegun, joined_kept, joined_kepts}

@@ -18,8 +18,8 @@ use Rattle.loader_machine.specs.declared.faults.LoaderFault.{LoaderFault}
 use Rattle.loader_machine.specs.declared.faults.LoaderFault.TheVariants as fault
 use Rattle.loader_machine.specs.Heads.{head_of, wants_of}
 use Rattle.loader_machine.specs.State.{Machine, User, first_id, max_users}
-use Rattle.loader_machine.specs.Found.{HoldsFile, HoldsLoad, HoldsFault, FileFound, Unread, Bad, Good, IsFound, Joined, Stops, Joins, AreJoined}
-use Rattle.loader_machine.specs.laws.Words.{joined_after, reads_of, LoadsFound, LoadsJoined, begun_users, rows_of}
+use Rattle.loader_machine.specs.Found.{HoldsFile, HoldsLoad, HoldsFault, FileFound, Unread, Bad, Good, IsFound, Joined, Stops, Joins, AreJoined, joined_after}
+use Rattle.loader_machine.specs.laws.Words.{reads_of, LoadsFound, LoadsJoined, begun_users, rows_of}
 use Rattle.loader_machine.specs.Commands.{Reply, Command, Load, Refused}
 use Rattle.loader_machine.specs.Refusals.{load_refusal, rows_refusal}
 use Rattle.loader_machine.specs.Steps.{NoSlots, Lacks, Begins, Steps}

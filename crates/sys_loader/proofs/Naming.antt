@@ -29,7 +29,7 @@ use Rattle.loader_machine.specs.Heads.{head_of, is_static}
 use Rattle.loader_machine.specs.State.{Pokes, User, Machine, handles_of, held_at}
 use Rattle.loader_machine.specs.Presences.{presence_at, there_at, is_active}
 use Rattle.loader_machine.specs.Stands.{AddressSetting, place_in, over_from, stands}
-use Rattle.loader_machine.specs.laws.Words.{with_pokes, read_bytes, entries_bytes, setting_in}
+use Rattle.loader_machine.specs.laws.Words.{read_bytes, entries_bytes, setting_in}
 use Rattle.loader_machine.specs.Found.{HoldsLoad}
 use Rattle.loader_machine.specs.Commands.{Where, Lies}
 use Rattle.loader_machine.specs.laws.OnceLaws.{one_load}

@@ -23,13 +23,13 @@ use Rattle.loader_machine.specs.declared.seen.Presence.{Presence}
 use Rattle.loader_machine.specs.declared.seen.Presence.TheVariants.{Absent, Purged, Idle, Active}
 use Rattle.loader_machine.specs.Heads.{head_of, at_number, is_static, is_table}
 use Rattle.loader_machine.specs.State.{User, Machine, UserSeen, Outline, outline_of, outlines, first_id, user_of, handles_in, with_all, attached_at, is_attached}
-use Rattle.loader_machine.specs.laws.Words.{family, handles_of_all, kept_state, let_go}
+use Rattle.loader_machine.specs.laws.Words.{family, handles_of_all, kept_state}
 use Rattle.loader_machine.specs.laws.Words as words
 use Rattle.loader_machine.specs.Presences.{handle_at, presence, presence_at, there_at, active_at, is_active, lies_in, lies_at}
 use Rattle.loader_machine.specs.Stands.{setting_with, far_of}
 use Rattle.loader_machine.specs.Refusals.{shut_down_refusal}
 use Rattle.loader_machine.specs.Commands.{Okay, ShutDown}
-use Rattle.loader_machine.specs.Steps.{changed_all}
+use Rattle.loader_machine.specs.Steps.{changed_all, let_go}
 use Rattle.loader_agrees.specs.Agrees.{LoadedUser, Loaded, outline, kept_outlines, seen_by, IsJoined, AreAttached, IsCall, UserAgrees, Agrees, IsOf, Has, IsSound, Met}
 use Rattle.loader_agrees.specs.laws.Words.{far_in}
 use Rattle.loader_agrees.specs.laws.Begun.{decide}

@@ -19,9 +19,8 @@ use Rattle.loader_machine.specs.Heads.{head_of, wants_of, number_of}
 use Rattle.loader_machine.specs.State.{no_pokes, first_id, max_users}
 use Rattle.loader_machine.specs.Presences.{handle_at}
 use Rattle.loader_machine.specs.Stands.{setting, stands}
-use Rattle.loader_machine.specs.Found.{Joined, Stops, Joins}
+use Rattle.loader_machine.specs.Found.{Joined, Stops, Joins, joined_after}
 use Rattle.loader_machine.specs.Steps.{lost_refusal}
-use Rattle.loader_machine.specs.laws.Words.{joined_after}
 use Rattle.loader_agrees.specs.Agrees.{LoadedUser, Loaded}
 use Rattle.loader_agrees.specs.Acts.{HasBegun, joined_kept, joined_kepts}
 use Rattle.sys_loader.specs.declared.answers.Started.{Started}

@@ -16,7 +16,7 @@ use Rattle.iigs_meaning.specs.Memory.{bytes_at}
 use Rattle.loader_machine.specs.declared.seen.SegmentHead.{SegmentHead}
 use Rattle.loader_machine.specs.declared.seen.Life.TheVariants.{Running, Dormant}
 use Rattle.loader_machine.specs.Heads.{head_of, at_number, is_static, is_table, want_of, wants_of}
-use Rattle.loader_machine.specs.laws.Words.{is_stack, stack_want, plain_want}
+use Rattle.loader_machine.specs.laws.Words.{is_stack}
 use Rattle.loader_machine.specs.State.{HeldSegment, first_id}
 use Rattle.loader_machine.specs.Presences.{handle_at, presence, presence_at, is_active}
 use Rattle.loader_machine.specs.Steps.{held_of_heads}

@@ -4,15 +4,14 @@ use Rattle.iigs_meaning.specs.declared.faults.PlaceFault.TheVariants as place
 use Rattle.loader_machine.specs.Heads as headers
 use Rattle.omf_format.specs.Header as header
 use Rattle.loader_machine.specs.Presences.{Absent, Active, Idle, Purged, active_at, presence_at}
-use Rattle.loader_machine.specs.Steps.{Activation, AddressPlace, Begins, Decides, Either, In, Lacks, Made, MakesActive, NoSlots, Nowhere, OutOfRoom, OutOfSlots, Put, PutIn, Sees, active_block, are_there, changed_all, entry_of, idle_block, joined_users, lost_refusal, read_again, static_handles, target_at_code, with_block_changed, with_both, with_segment, with_slots, without_users, held_of_heads}
+use Rattle.loader_machine.specs.Steps.{Activation, AddressPlace, Begins, Decides, Either, In, Lacks, Made, MakesActive, NoSlots, Nowhere, OutOfRoom, OutOfSlots, Put, PutIn, Sees, active_block, are_there, changed_all, entry_of, idle_block, joined_users, lost_refusal, read_again, static_handles, target_at_code, with_block_changed, with_both, with_segment, with_slots, without_users, held_of_heads, let_go}
 use Rattle.loader_machine.specs.Stands.{AddressSetting, Far, over_from, far_of, setting_with}
 use Rattle.loader_machine.specs.Commands.{Alloc, Banks, Bytes, Command, Compact, Entered, Jsl, Lies, Load, Nothing, Poke, Refused, Reply, Room, ShutDown, Started}
-use Rattle.loader_machine.specs.Found.{AreJoined, Bad, FileFound, Good, HoldsFile, HoldsRuntime, HoldsRuntimeFault, Joined, Joins, Stops, Unread}
+use Rattle.loader_machine.specs.Found.{AreJoined, Bad, FileFound, Good, HoldsFile, HoldsRuntime, HoldsRuntimeFault, Joined, Joins, Stops, Unread, joined_after}
 use Rattle.loader_machine.specs.declared.faults.LoaderFault.TheVariants.{BadFile, CannotRead, Empty, NoHandle, NoRoom, NoSegment, NoTarget, NotEntry, TableByte}
 use Rattle.loader_machine.specs.declared.script.ScriptCause.TheVariants.{BadNumber, BankTwice, BanksFirst, UnknownCommand, WrongCount}
-use Rattle.iigs_meaning.specs.declared.wants.Block.{Block}
 use Rattle.iigs_meaning.specs.declared.wants.BlockState.{BlockState}
-use Rattle.std.specs.Prelude.{Bool, Err, IsSome, List, None, Ok, Option, Result, Some, [], bytes_eq, codes, count_by, false, filter, if◌then◌else◌, length, map, max, nat_le, nat_lt, not, slice_get, true, ℕ, ◌%◌, ◌&&◌, ◌++◌, ◌+◌, ◌-◌, ◌/◌, ◌==◌, ◌||◌, ◌∷◌, ◌≡◌, ◌≤◌, is_some}
+use Rattle.std.specs.Prelude.{Bool, Err, IsSome, List, None, Ok, Option, Result, Some, [], bytes_eq, codes, count_by, false, filter, if◌then◌else◌, length, map, max, nat_le, nat_lt, not, slice_get, true, ℕ, ◌%◌, ◌&&◌, ◌++◌, ◌+◌, ◌-◌, ◌/◌, ◌==◌, ◌||◌, ◌∷◌, ◌≡◌, ◌≤◌}
 use Rattle.loader_machine.specs.declared.script.CommandName.{CommandName}
 use Rattle.load_meaning.specs.declared.table.Entry.{Entry}
 use Rattle.omf_io.specs.Files.{FileMap}
@@ -163,11 +162,6 @@ IsRowFound held path Unread = (file : List ℕ) → ¬ HoldsFile held path file
 IsRowFound held path (Bad fault) = HoldsRuntimeFault held path fault
 IsRowFound held path (Good segments) = HoldsRuntime held path segments
 
--- the outcome where one file more, of these segments, is read before the others
-abbrev pub joined_after : List Segment → Joined → Joined
-joined_after segments (Stops reads why) = Stops (reads + 1) why
-joined_after segments (Joins all) = Joins (segments ∷ all)
-
 -- by what the read of the first row finds, where `Rest` holds of the outcome of the others
 abbrev pub JoinsFound : FileFound → (Joined → Type 0) → Joined → Type 0
 JoinsFound found Rest joined = elim found [
@@ -316,10 +310,6 @@ abbrev pub with_segment_idle : Slots → Option Handle → Slots
 with_segment_idle slots None = slots
 with_segment_idle slots (Some h) = with_block_changed idle_block slots h
 
--- a block of a segment that is let go where it is active
-abbrev pub let_go : Block → Block
-let_go block = if is_some block.at && block.locked then idle_block block else block
-
 -- the users that are attached to a user, and it itself
 abbrev pub family : ℕ → List ℕ → List ℕ
 family id attached = attached ++ id ∷ []
@@ -416,11 +406,6 @@ is_hex_digit byte = (nat_le ascii.digit_0 byte && nat_le byte ascii.digit_9) || 
 -- a line of at most 1,023 bytes, which are words with one space between them
 abbrev pub is_well_formed : List ℕ → Bool
 is_well_formed line = nat_le (length line) 1023 && list_all is_word (words_of line)
-
--- no command was given yet
-abbrev pub is_start : List Command → Bool
-is_start [] = true
-is_start (command ∷ commands) = false
 
 -- the lines that aren't skipped
 abbrev pub written : List (List ℕ) → List (List ℕ)

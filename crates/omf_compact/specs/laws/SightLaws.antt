@@ -24,8 +24,8 @@ use Rattle.loader_machine.specs.declared.faults.LoaderFault.TheVariants.{CannotR
 use Rattle.loader_machine.specs.State.{User, Machine, UserSeen, Pokes, first_id, handles_of, held_at, outlines, is_attached, ids_from}
 use Rattle.loader_machine.specs.Presences.{presence_at}
 use Rattle.loader_machine.specs.Stands.{AddressSetting, stands}
-use Rattle.loader_machine.specs.laws.Words.{entries_bytes, read_bytes, with_pokes, IsRowFound, JoinsFound, reads_of, IsPut, Lands, joined_user, begun_users, LoadsJoined, LoadsFound, Activates, EntersEntry, EntersSegment, Enters, RestartsInPlace, again_users, restart_reads, rows_if, rows_of, joined_after, setting_in}
-use Rattle.loader_machine.specs.Found.{FileFound, Unread, Bad, Good, IsFound, Joined, Stops, Joins, AreJoined}
+use Rattle.loader_machine.specs.laws.Words.{entries_bytes, read_bytes, with_pokes, IsRowFound, JoinsFound, reads_of, IsPut, Lands, joined_user, begun_users, LoadsJoined, LoadsFound, Activates, EntersEntry, EntersSegment, Enters, RestartsInPlace, again_users, restart_reads, rows_if, rows_of, setting_in}
+use Rattle.loader_machine.specs.Found.{FileFound, Unread, Bad, Good, IsFound, Joined, Stops, Joins, AreJoined, joined_after}
 use Rattle.loader_machine.specs.Commands.{Command, Banks, Load, LoadSegment, UnloadSegment, Jsl, ShutDown, Restart, Purge, Poke, Bytes, Where, Info, Alloc, Free, Lock, Unlock, Level, StateOf, Room, Compact, Reply, Entered, SegmentIs, Refused}
 use Rattle.loader_machine.specs.Refusals.{Refuse, load_refusal, rows_refusal, load_segment_refusal, restart_refusal}
 use Rattle.loader_machine.specs.Steps.{Sees, IsSeen, Decides, Does, Either, Begins, joined_users, lost_from, lost_in, lost_refusal, StepsLoad, MakesActive, StandsIn, IsAt, AddressPlace, Nowhere, In, IsLocated, target_at_code, address_of, no_jsl, StepsJsl, are_there, StepsRestart, Steps}
