@@ -28,6 +28,7 @@ use Rattle.loader_machine.specs.Found.{HoldsLoad}
 use Rattle.loader_machine.specs.Commands.{Command, Reply, Refused}
 use Rattle.loader_machine.specs.Steps.{StepsAlloc, Steps}
 use Rattle.loader_machine.specs.Needs.{Needs, IsReadFor}
+
 -- a user as a loader keeps it: the path of its file, whether it runs, for each segment of the file its handle and what was read of
 -- its header, and the IDs of the users that are attached to it
 pub record LoadedUser : Type 0 where

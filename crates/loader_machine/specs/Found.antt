@@ -8,6 +8,7 @@ use Rattle.load_meaning.specs.Loadable.{IsLoadable, IsFirstLoadFault}
 use Rattle.load_meaning.specs.Runtime.{IsRuntime, IsFirstRuntimeFault}
 use Rattle.loader_machine.specs.declared.faults.LoaderFault.{LoaderFault}
 use Rattle.loader_machine.specs.declared.faults.LoaderFault.TheVariants.{CannotRead, BadFile}
+
 -- the path holds a file that isn't too long to be read
 abbrev pub HoldsFile : FileMap → List ℕ → List ℕ → Type 0
 HoldsFile held path file = (get held path ≡ Some file) × (length file ≤ max_file)

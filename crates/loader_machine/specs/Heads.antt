@@ -50,18 +50,18 @@ want_of head = if form_of head.kind == 0x12 then record {
   bank = Some 0;
   low = None;
 } else (
-  let asks = not (head.org == 0) in
-  let fixes_bank = asks && (is_absolute_bank head.kind && not (is_bank_relative head.kind)) in
-  let fixes_low = asks && (is_bank_relative head.kind && not (is_absolute_bank head.kind)) in
-  record {
-    size = max 1 head.length;
-    align = alignment_of head.align;
-    no_cross = stays_in_bank head.bank_size;
-    no_special = avoids_special head.kind;
-    at = some_if (asks && (not fixes_bank && not fixes_low)) head.org;
-    bank = some_if fixes_bank (head.org / 0x10000);
-    low = some_if fixes_low (head.org % 0x10000);
-  })
+    let asks = not (head.org == 0) in
+    let fixes_bank = asks && (is_absolute_bank head.kind && not (is_bank_relative head.kind)) in
+    let fixes_low = asks && (is_bank_relative head.kind && not (is_absolute_bank head.kind)) in
+    record {
+      size = max 1 head.length;
+      align = alignment_of head.align;
+      no_cross = stays_in_bank head.bank_size;
+      no_special = avoids_special head.kind;
+      at = some_if (asks && (not fixes_bank && not fixes_low)) head.org;
+      bank = some_if fixes_bank (head.org / 0x10000);
+      low = some_if fixes_low (head.org % 0x10000);
+    })
 
 -- the wants of the static segments, in order
 abbrev pub wants_of : List SegmentHead → List Want

@@ -11,6 +11,7 @@ use Rattle.loader_machine.specs.Presences.{Presence, Absent, Purged, Idle, Activ
 use Rattle.loader_machine.specs.Commands.{Command, Load, LoadSegment, Jsl, Restart}
 use Rattle.loader_machine.specs.Refusals.{Refuse, load_refusal, rows_refusal, bytes_refusal, load_segment_refusal, restart_refusal}
 use Rattle.loader_machine.specs.Steps.{seen_of, Sees, IsSeen, StandsIn, IsAt, target_at_code, no_jsl, address_of, are_there, is_read_again}
+
 -- a segment that is made active is read where it isn't there
 abbrev pub is_read : Presence → Bool
 is_read Absent = true

@@ -11,6 +11,7 @@ use Rattle.loader_machine.specs.declared.faults.LoaderFault.TheVariants.{NoUser,
 use Rattle.loader_machine.specs.Heads.{SegmentHead, at_number, is_table}
 use Rattle.loader_machine.specs.State.{UserSeen, is_running, max_users}
 use Rattle.loader_machine.specs.Presences.{presence_at, is_active}
+
 -- why a call is refused, if it is
 abbrev pub Refuse : Type 0
 Refuse = Option LoaderFault

@@ -10,6 +10,7 @@ use Rattle.loader_machine.specs.declared.seen.Presence.TheVariants.{Absent, Purg
 use Rattle.loader_machine.specs.declared.faults.LoaderFault.{LoaderFault}
 use Rattle.loader_machine.specs.declared.faults.LoaderFault.TheVariants as fault
 use Rattle.loader_machine.specs.Commands.{Reply, Okay, Started, MadeActive, Entered, Counted, Shown, Lies, Nothing, SegmentIs, Placed, BlockIs, RoomIs, Moved, Refused}
+
 -- ---- values
 
 -- a handle in six digits: four of the slot and two of the generation

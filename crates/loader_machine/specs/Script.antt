@@ -12,6 +12,7 @@ use Rattle.loader_machine.specs.declared.script.ScriptCause.TheVariants.{TooMany
 use Rattle.loader_machine.specs.declared.script.ScriptFault.{ScriptFault}
 use Rattle.loader_machine.specs.Alloc.{is_attributes}
 use Rattle.loader_machine.specs.Commands.{Command, Banks, Load, LoadSegment, UnloadSegment, Jsl, ShutDown, Restart, Purge, Poke, Bytes, Where, Info, Alloc, Free, Lock, Unlock, Level, StateOf, Room, Compact}
+
 -- ---- lines
 
 -- the most lines of a script

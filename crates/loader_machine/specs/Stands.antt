@@ -11,6 +11,7 @@ use Rattle.iigs_meaning.specs.declared.handles.Handle.{Handle}
 use Rattle.iigs_meaning.specs.Fits.{Slots}
 use Rattle.loader_machine.specs.State.{Pokes, Outline, handles_in, attached_at}
 use Rattle.loader_machine.specs.Presences.{presence_at, there_at, active_at}
+
 -- where the segments of a user are: its ID; the address of each of its segments; and the address of the segment that a table's
 -- entry names by file and number, where that segment is active
 pub record AddressSetting : Type 0 where

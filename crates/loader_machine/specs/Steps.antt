@@ -33,6 +33,7 @@ use Rattle.loader_machine.specs.Found.{HoldsLoad, FileFound, Unread, Bad, Good, 
 use Rattle.loader_machine.specs.Commands.{Command, Banks, Load, LoadSegment, UnloadSegment, Jsl, ShutDown, Restart, Purge, Poke, Bytes, Where, Info, Alloc, Free, Lock, Unlock, Level, StateOf, Room, Compact, Reply, Okay, Started, MadeActive, Entered, Counted, Shown, Lies, Nothing, SegmentIs, Placed, BlockIs, RoomIs, Moved, Refused}
 use Rattle.loader_machine.specs.Refusals.{Refuse, load_refusal, rows_refusal, bytes_refusal, info_refusal, load_segment_refusal, unload_refusal, poke_refusal, shut_down_refusal, restart_refusal, purge_refusal, state_refusal, free_refusal, change_refusal}
 use Rattle.std.specs.List.{flat_map}
+
 -- ---- what is seen of users
 
 abbrev pub seen_of : User → List Segment → UserSeen
@@ -149,7 +150,7 @@ abbrev pub lost_from : List (List SegmentHead) → ℕ → List Target → Optio
 lost_from attached k [] = None
 lost_from attached k (t ∷ targets) =
     if nat_le t.file 1
-        || option_map_or (λ heads. option_map_or (λ head. nat_lt t.offset head.length) (at_number heads t.segment) false) (slice_get attached (t.file - 2)) false
+    || option_map_or (λ heads. option_map_or (λ head. nat_lt t.offset head.length) (at_number heads t.segment) false) (slice_get attached (t.file - 2)) false
     then lost_from attached (k + 1) targets else Some k
 
 -- and the fault that it is: in the table, at the entry

@@ -8,6 +8,7 @@ use Rattle.loader_machine.specs.State.{Machine, empty_of}
 use Rattle.loader_machine.specs.Commands.{Command, Load, LoadSegment, Jsl, Restart, Reply, Refused}
 use Rattle.loader_machine.specs.Steps.{Either}
 use Rattle.loader_machine.specs.Transcript.{AreAnswered}
+
 -- the reply is `cannot read`
 abbrev pub is_unread : Reply → Bool
 is_unread (Refused CannotRead) = true

@@ -10,6 +10,7 @@ use Rattle.loader_agrees.specs.Agrees.{Loaded, Agrees}
 use Rattle.loader_replies.specs.Replied.{AreReplies, IsUnanswered}
 use Rattle.loader_script.specs.declared.run.ScriptEnd.{ScriptEnd}
 use Rattle.loader_script.specs.declared.run.ScriptEnd.TheVariants.{Done, Refused, CannotPrint, Memory}
+
 -- Every command was answered, and the replies were printed, a line each. The loader that is handed out agrees with the state to
 -- which they lead; there is one exactly where there is a command.
 pub record HasRunAll (loader : Option Loaded) (commands : List Command) (o : Outside) : Type 0 where

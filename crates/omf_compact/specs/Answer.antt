@@ -8,6 +8,7 @@ use Rattle.omf_compact.specs.declared.fault.CompactCause.{CompactCause}
 use Rattle.omf_compact.specs.declared.fault.CompactCause.TheVariants.{NotLoadFile, Truncated, BadHeader, Unsupported, BadRecord, Sequence, DataTooLong, PatchOutside, NoSuchTarget, DynamicTarget, BadTable, BrokenPart, TooLong, Memory}
 use Rattle.omf_compact.specs.declared.fault.CompactFault.{CompactFault}
 use Rattle.omf_compact.specs.Canonical.{plain, broken_in, canon}
+
 -- the file is a load file without a broken part, and what is written for what it holds isn't too long, and is this
 pub record IsAnswer (file out : List ℕ) : Type 0 where
   pub segments : List Segment

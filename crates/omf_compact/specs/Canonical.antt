@@ -10,6 +10,7 @@ use Rattle.omf_format.specs.File.{Segment}
 use Rattle.load_meaning.specs.Cells.{Cell, cells}
 use Rattle.load_meaning.specs.WrittenBody.{zeros_after, body_records}
 use Rattle.omf_compact.specs.Stretches.{first_broken, stretches, bytes_in}
+
 -- ---- what is held
 
 -- an ENTRY record

@@ -40,6 +40,7 @@ use Rattle.std.specs.Option.{option_map, option_map_or}
 use Rattle.load_meaning.specs.Pathnames.{paths_of}
 use Rattle.loader_machine.specs.Needs.{some_read_again}
 use Rattle.load_meaning.specs.Table.{table_bytes}
+
 -- ---- refusals, settings
 
 -- the segment is there, and isn't skipped
