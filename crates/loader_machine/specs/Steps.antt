@@ -290,8 +290,7 @@ without_users slots (id ∷ ids) = without_users (without_user slots id) ids
 abbrev pub StepsShutDown : Machine → ℕ → Bool → User → Machine → Type 0
 StepsShutDown state id true user next = next ≡ record {
   banks = state.banks;
-  slots = changed_all let_go state.slots
-      (flat_map (handles_in (outlines state.users)) (user.attached ++ id ∷ []));
+  slots = changed_all let_go state.slots (flat_map (handles_in (outlines state.users)) (user.attached ++ id ∷ []));
   users = with_all (λ one. record one { life = Dormant }) state.users (user.attached ++ id ∷ []);
 }
 StepsShutDown state id false user next = next ≡ record {
@@ -326,7 +325,8 @@ read_again (head ∷ heads) (one ∷ held) = (if is_read_again head then fresh o
 -- handles are released, and it begins as at a load. It keeps the users attached to it, and they run.
 pub record StepsRestart (Makes : MakesRoom) (held : FileMap) (state : Machine) (id : ℕ) (reply : Reply) (next : Machine) : Type 0 where
   pub sees : Sees held state id
-  pub is : let user = sees.user in let heads = map head_of sees.segments in let runs : User → User = λ one. record one { life = Running } in Either (are_there state.slots heads (handles_of user) 1)
+  pub is : let user = sees.user in let heads = map head_of sees.segments in let runs : User → User = λ one. record one { life = Running } in
+      Either (are_there state.slots heads (handles_of user) 1)
       (let slots = changed_all active_block state.slots (static_handles heads (handles_of user) 1) in
       (reply ≡ Started id (entry_of id slots heads (handles_of user)))
       × (next ≡ record {
