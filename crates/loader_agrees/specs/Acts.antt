@@ -10,13 +10,13 @@ use Rattle.iigs_meaning.specs.Memory.{Memory, AreAllPlaced, bytes_at}
 use Rattle.loader_machine.specs.declared.seen.SegmentHead.{SegmentHead}
 use Rattle.loader_machine.specs.declared.seen.Life.TheVariants.{Running}
 use Rattle.loader_machine.specs.Heads.{head_of, at_number, wants_of}
-use Rattle.loader_machine.specs.State.{no_pokes, max_users, first_id, user_of, handles_of, ids_from}
+use Rattle.loader_machine.specs.State.{no_pokes, max_users, first_id, user_of, ids_from}
 use Rattle.loader_machine.specs.declared.seen.Presence.TheVariants.{Active}
 use Rattle.loader_machine.specs.declared.seen.Presence.{Presence}
 use Rattle.loader_machine.specs.Presences.{handle_at, presence, presence_at}
 use Rattle.loader_machine.specs.Refusals.{bytes_refusal, info_refusal}
 use Rattle.loader_machine.specs.Stands.{setting, stands}
-use Rattle.loader_machine.specs.Steps.{started_user, entry_of}
+use Rattle.loader_machine.specs.Steps.{entry_of, held_of_heads}
 use Rattle.loader_agrees.specs.Agrees.{LoadedUser, Loaded, seen_by}
 
 -- ---- active segments
@@ -69,7 +69,7 @@ abbrev pub started_kept : List ℕ → List SegmentHead → List Handle → Load
 started_kept path heads handles = record {
   path = path;
   life = Running;
-  handles = handles_of (started_user path heads handles);
+  handles = map (λ held. held.handle) (held_of_heads heads handles);
   heads = heads;
   attached = [];
 }

@@ -11,7 +11,7 @@ use Rattle.iigs_meaning.specs.declared.handles.Handle.{Handle}
 use Rattle.iigs_meaning.specs.declared.wants.Want.{Want}
 use Rattle.iigs_meaning.specs.declared.wants.Block.{Block}
 use Rattle.iigs_meaning.specs.Slots.{get, slot_at}
-use Rattle.iigs_meaning.specs.Fits.{Slots, block_in}
+use Rattle.iigs_meaning.specs.Fits.{block_in}
 use Rattle.iigs_meaning.specs.Puts.{MakesRoom}
 use Rattle.iigs_meaning.specs.Memory.{Memory, bytes_at}
 use Rattle.loader_machine.specs.declared.seen.SegmentHead.{SegmentHead}
@@ -56,15 +56,6 @@ outline kept = record { path = kept.path; life = kept.life; handles = kept.handl
 abbrev pub kept_outlines : List (Option LoadedUser) → List (Option Outline)
 kept_outlines users = map (option_map outline) users
 
--- where the segments of the attached users of the user of an ID are active
-abbrev pub far_in : Loaded → ℕ → Far
-far_in loader id = far_of loader.memory.slots (kept_outlines loader.users) id
-
--- every static segment is there
-abbrev pub AreThere : Slots → List (Option Handle) → List Segment → Type 0
-AreThere slots handles segments = (number : ℕ) (s : Segment) → segment_at segments number ≡ Some s → is_static (head_of s) ≡ true
-    → IsSome (there_at (presence_at slots handles number))
-
 -- A user agrees: the path holds a load file, whose headers are kept; a table has no pokes; the static segments of a running user are
 -- active; and while all static segments are there, the block of each segment that is there begins with the segment's content, where `far`
 -- says where the segments of attached users are active.
@@ -77,7 +68,8 @@ pub record UserAgrees (held : FileMap) (memory : Memory) (far : Far) (id : ℕ) 
   pub unpoked : (number : ℕ) (s : Segment) → segment_at segments number ≡ Some s → is_table s ≡ true → (held_at user number).pokes ≡ no_pokes
   pub statics : kept.life ≡ Running → (number : ℕ) (s : Segment) → segment_at segments number ≡ Some s → is_static (head_of s) ≡ true
       → is_active (presence_at memory.slots kept.handles number) ≡ true
-  pub begins : AreThere memory.slots kept.handles segments → (number : ℕ) (s : Segment) (h : Handle) → segment_at segments number ≡ Some s
+  pub begins : ((number : ℕ) (s : Segment) → segment_at segments number ≡ Some s → is_static (head_of s) ≡ true
+      → IsSome (there_at (presence_at memory.slots kept.handles number))) → (number : ℕ) (s : Segment) (h : Handle) → segment_at segments number ≡ Some s
       → handle_at kept.handles number ≡ Some h → IsSome (there_at (presence_at memory.slots kept.handles number))
       → IsFront (stands (setting_with far id memory.slots kept.handles) (held_at user number).pokes s) (bytes_at memory h.slot)
 
@@ -106,22 +98,19 @@ pub record LeadsFar (users : List (Option LoadedUser)) (id : ℕ) (t : Target) :
   pub head' : at_number kept.heads t.segment ≡ Some head
   pub inside : t.offset < head.length
 
--- and so does each entry for an attached user in the table of a user's file
-abbrev pub EntriesLead : FileMap → List (Option LoadedUser) → Type 0
-EntriesLead held users = (place number k : ℕ) (kept : LoadedUser) (segments : List Segment) (s : Segment) (t : Target) → slice_get users place ≡ Some (Some kept)
-    → HoldsLoad held kept.path segments → segment_at segments number ≡ Some s → is_table s ≡ true → slice_get (targets_of s) k ≡ Some t → 2 ≤ t.file
-    → LeadsFar users (first_id + place) t
-
--- over these files the loader agrees with the state: all of it but bytes and headers is the state's, and each user agrees; attached
--- users live as their users do, and each entry for one leads to a place in one
+-- Over these files the loader agrees with the state: all of it but bytes and headers is the state's, and each user agrees, by where the segments
+-- of its attached users are active; attached users live as their users do, and each entry for one in the table of a user's file leads to a place
+-- in one.
 pub record Agrees (held : FileMap) (loader : Loaded) (state : Machine) : Type 0 where
   pub banks : loader.memory.banks ≡ state.banks
   pub slots : loader.memory.slots ≡ state.slots
   pub users : kept_outlines loader.users ≡ outlines state.users
   pub attached : AreAttached loader.users
-  pub entries : EntriesLead held loader.users
+  pub entries : (place number k : ℕ) (kept : LoadedUser) (segments : List Segment) (s : Segment) (t : Target) → slice_get loader.users place ≡ Some (Some kept)
+      → HoldsLoad held kept.path segments → segment_at segments number ≡ Some s → is_table s ≡ true → slice_get (targets_of s) k ≡ Some t → 2 ≤ t.file
+      → LeadsFar loader.users (first_id + place) t
   pub each : (place : ℕ) (kept : LoadedUser) (user : User) → slice_get loader.users place ≡ Some (Some kept) → slice_get state.users place ≡ Some (Some user)
-      → UserAgrees held loader.memory (far_in loader (first_id + place)) (first_id + place) kept user
+      → UserAgrees held loader.memory (far_of loader.memory.slots (kept_outlines loader.users) (first_id + place)) (first_id + place) kept user
 
 -- ---- what is true of every loader
 

@@ -50,12 +50,6 @@ pub record HoldsRuntimeFault (held : FileMap) (path : List ℕ) (fault : LoadFau
   pub is_held : HoldsFile held path file
   pub first : IsFirstRuntimeFault file fault
 
--- what a read of a row's path finds
-abbrev pub IsRowFound : FileMap → List ℕ → FileFound → Type 0
-IsRowFound held path Unread = (file : List ℕ) → ¬ HoldsFile held path file
-IsRowFound held path (Bad fault) = HoldsRuntimeFault held path fault
-IsRowFound held path (Good segments) = HoldsRuntime held path segments
-
 -- the outcome of reading the files of rows, one by one: the call is refused at the last of `reads` reads; or each is a run-time library
 -- file, of these segments
 pub data Joined : Type 0 where
@@ -67,17 +61,13 @@ abbrev pub joined_after : List Segment → Joined → Joined
 joined_after segments (Stops reads why) = Stops (reads + 1) why
 joined_after segments (Joins all) = Joins (segments ∷ all)
 
--- by what the read of the first row finds, where `Rest` holds of the outcome of the others
-abbrev pub JoinsFound : FileFound → (Joined → Type 0) → Joined → Type 0
-JoinsFound Unread Rest joined = joined ≡ Stops 1 CannotRead
-JoinsFound (Bad fault) Rest joined = joined ≡ Stops 1 (BadFile fault)
-JoinsFound (Good segments) Rest joined = (rest : Joined) × Rest rest × (joined ≡ joined_after segments rest)
-
+-- the outcome of the files at these paths, by what the read of the first one finds
 abbrev pub AreJoined : FileMap → List (List ℕ) → Joined → Type 0
 AreJoined held [] joined = joined ≡ Joins []
-AreJoined held (path ∷ paths) joined = (found : FileFound) × IsRowFound held path found × JoinsFound found (AreJoined held paths) joined
-
--- how many files were read
-abbrev pub reads_of : Joined → ℕ
-reads_of (Stops reads why) = reads
-reads_of (Joins all) = length all
+AreJoined held (path ∷ paths) joined = (found : FileFound)
+    × (elim found [ Unread ↦ (file : List ℕ) → ¬ HoldsFile held path file | Bad fault ↦ HoldsRuntimeFault held path fault | Good segments ↦ HoldsRuntime held path segments ])
+    × (elim found [
+      | Unread ↦ joined ≡ Stops 1 CannotRead
+      | Bad fault ↦ joined ≡ Stops 1 (BadFile fault)
+      | Good segments ↦ (rest : Joined) × AreJoined held paths rest × (joined ≡ joined_after segments rest)
+    ])

@@ -30,32 +30,18 @@ is_static head = not (is_dynamic head.kind) && not (is_skipped head.kind)
 abbrev pub is_table : SegmentHead → Bool
 is_table head = form_of head.kind == 0x02
 
--- direct page and stack
-abbrev pub is_stack : SegmentHead → Bool
-is_stack head = form_of head.kind == 0x12
-
 -- ---- ORG
-
--- ORG fixes the bank, where it asks for one and doesn't ask for a place in a bank
-abbrev pub fixes_bank : SegmentHead → Bool
-fixes_bank head = not (head.org == 0) && (is_absolute_bank head.kind && not (is_bank_relative head.kind))
-
--- ORG fixes the place in a bank, where it asks for one and doesn't ask for a bank
-abbrev pub fixes_low : SegmentHead → Bool
-fixes_low head = not (head.org == 0) && (is_bank_relative head.kind && not (is_absolute_bank head.kind))
-
--- ORG fixes the address, where it asks for both or for neither; ORG 0 fixes nothing
-abbrev pub fixes_address : SegmentHead → Bool
-fixes_address head = not (head.org == 0) && (not (fixes_bank head) && not (fixes_low head))
 
 abbrev pub some_if : Bool → ℕ → Option ℕ
 some_if asked n = if asked then Some n else None
 
 -- ---- wants
 
--- a stack lies in bank 0, on a page at least, and has no other wish
-unfoldable pub stack_want : SegmentHead → Want
-stack_want head = record {
+-- What is asked of a segment's place, which is room for LENGTH bytes and one at least: direct page and stack are in bank 0, on a page at
+-- least. Every other segment asks for what its header says; an ORG other than 0 fixes the bank where it is an absolute bank alone, the place in
+-- a bank where it is bank relative alone, and else the address.
+unfoldable pub want_of : SegmentHead → Want
+want_of head = if form_of head.kind == 0x12 then record {
   size = max 1 head.length;
   align = max 0x100 (alignment_of head.align);
   no_cross = stays_in_bank head.bank_size;
@@ -63,23 +49,19 @@ stack_want head = record {
   at = None;
   bank = Some 0;
   low = None;
-}
-
--- every other segment asks for what its header says
-unfoldable pub plain_want : SegmentHead → Want
-plain_want head = record {
-  size = max 1 head.length;
-  align = alignment_of head.align;
-  no_cross = stays_in_bank head.bank_size;
-  no_special = avoids_special head.kind;
-  at = some_if (fixes_address head) head.org;
-  bank = some_if (fixes_bank head) (head.org / 0x10000);
-  low = some_if (fixes_low head) (head.org % 0x10000);
-}
-
--- what is asked of a segment's place: room for LENGTH bytes and one at least, and the rest by its type
-unfoldable pub want_of : SegmentHead → Want
-want_of head = if is_stack head then stack_want head else plain_want head
+} else (
+    let asks = not (head.org == 0) in
+    let fixes_bank = asks && (is_absolute_bank head.kind && not (is_bank_relative head.kind)) in
+    let fixes_low = asks && (is_bank_relative head.kind && not (is_absolute_bank head.kind)) in
+    record {
+      size = max 1 head.length;
+      align = alignment_of head.align;
+      no_cross = stays_in_bank head.bank_size;
+      no_special = avoids_special head.kind;
+      at = some_if (asks && (not fixes_bank && not fixes_low)) head.org;
+      bank = some_if fixes_bank (head.org / 0x10000);
+      low = some_if fixes_low (head.org % 0x10000);
+    })
 
 -- the wants of the static segments, in order
 abbrev pub wants_of : List SegmentHead → List Want

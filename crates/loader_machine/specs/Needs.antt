@@ -6,7 +6,7 @@ use Rattle.load_meaning.specs.Pathnames.{paths_of}
 use Rattle.load_meaning.specs.LoadTable.{targets_of}
 use Rattle.loader_machine.specs.Heads.{SegmentHead, head_of, is_table}
 use Rattle.loader_machine.specs.State.{User, Machine, UserSeen, user_of, handles_of, outlines, named_by, is_attached}
-use Rattle.loader_machine.specs.Found.{FileFound, Unread, Bad, Good, IsFound, Joined, AreJoined, reads_of}
+use Rattle.loader_machine.specs.Found.{FileFound, Unread, Bad, Good, IsFound, Joined, AreJoined, Joins, Stops}
 use Rattle.loader_machine.specs.Presences.{Presence, Absent, Purged, Idle, Active, presence_at}
 use Rattle.loader_machine.specs.Commands.{Command, Load, LoadSegment, Jsl, Restart}
 use Rattle.loader_machine.specs.Refusals.{Refuse, load_refusal, rows_refusal, bytes_refusal, load_segment_refusal, restart_refusal}
@@ -51,10 +51,7 @@ abbrev pub some_read_again : List SegmentHead → Bool
 some_read_again [] = false
 some_read_again (head ∷ heads) = is_read_again head || some_read_again heads
 
--- a restart reads where a static segment isn't there, or one is read again
-abbrev pub restart_reads : Machine → UserSeen → Bool
-restart_reads state seen = not (are_there state.slots seen.heads seen.handles 1) || some_read_again seen.heads
-
+-- the path that a command needs in a state, if it needs one: a restart, where a static segment isn't there, or one is read again
 abbrev pub Needs : FileMap → Machine → Command → List (List ℕ) → Type 0
 Needs held state (Load path) paths = paths ≡ path_if (load_refusal (length state.users)) true path
 Needs held state (LoadSegment id number) paths = NeedsOf held state id
@@ -64,24 +61,20 @@ Needs held state (Jsl id number at) paths =
     × (paths ≡ path_if None (is_read (presence_at state.slots (handles_of user) t.segment)) user.path))
     ⊎ (((other : ℕ) (t : Target) → ¬ Reaches held state id number at other t) × (paths ≡ []))
 Needs held state (Restart id) paths = NeedsOf held state id
-    (λ seen user. path_if (restart_refusal (is_attached (outlines state.users) id) (Some seen)) (restart_reads state seen) user.path) paths
+    (λ seen user. path_if (restart_refusal (is_attached (outlines state.users) id) (Some seen))
+    (not (are_there state.slots seen.heads seen.handles 1) || some_read_again seen.heads) user.path) paths
 Needs _ _ _ paths = paths ≡ []
-
--- the paths in the rows of a file's pathname segment, where it is loaded and its users can be made
-abbrev pub rows_if : Refuse → List (List ℕ) → List (List ℕ)
-rows_if (Some fault) rows = []
-rows_if None rows = rows
-
-abbrev pub rows_of : Machine → FileFound → List (List ℕ)
-rows_of state Unread = []
-rows_of state (Bad fault) = []
-rows_of state (Good segments) = rows_if (rows_refusal (length state.users) (length (paths_of segments))) (paths_of segments)
 
 -- The paths that a command needs after the first, in order, and how many of them are read, where no read fails: for a load those of the
 -- rows, up to the first at which it is refused, and for any other command none.
 abbrev pub NeedsAfter : FileMap → Machine → Command → List (List ℕ) → ℕ → Type 0
-NeedsAfter held state (Load path) rows reads = ((load_refusal (length state.users) ≡ None) × (found : FileFound) × IsFound held path found × (rows ≡ rows_of state found)
-    × (joined : Joined) × AreJoined held rows joined × (reads ≡ reads_of joined))
+NeedsAfter held state (Load path) rows reads = ((load_refusal (length state.users) ≡ None) × (found : FileFound) × IsFound held path found
+    × (rows ≡ elim found [
+      | Unread ↦ []
+      | Bad fault ↦ []
+      | Good segments ↦ elim (rows_refusal (length state.users) (length (paths_of segments))) [ None ↦ paths_of segments | Some fault ↦ [] ]
+    ])
+    × (joined : Joined) × AreJoined held rows joined × (reads ≡ elim joined [ Stops count why ↦ count | Joins all ↦ length all ]))
     ⊎ (((load_refusal (length state.users) ≡ None) → ⊥) × (rows ≡ []) × (reads ≡ 0))
 NeedsAfter held state _ rows reads = (rows ≡ []) × (reads ≡ 0)
 

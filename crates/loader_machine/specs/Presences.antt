@@ -1,23 +1,18 @@
 -- Whether and where segments are in memory.
-use Rattle.std.specs.Prelude.{ℕ, Bool, true, false, List, Option, Some, None}
+use Rattle.std.specs.Prelude.{ℕ, Bool, true, false, List, Option, Some, None, if◌then◌else◌}
 use Rattle.std.specs.Option.{option_and_then}
 use Rattle.iigs_meaning.specs.declared.handles.Handle.{Handle}
-use Rattle.iigs_meaning.specs.declared.wants.Block.{Block}
 use Rattle.iigs_meaning.specs.Slots.{get}
 use Rattle.iigs_meaning.specs.Fits.{Slots}
 use Rattle.loader_machine.specs.Heads.{at_number}
 pub use Rattle.loader_machine.specs.declared.seen.Presence.{Presence}
 pub use Rattle.loader_machine.specs.declared.seen.Presence.TheVariants.{Absent, Purged, Idle, Active}
+use Rattle.iigs_meaning.specs.declared.wants.Block.{Block}
 
--- a block that is there is active where it is locked, and else idle
-abbrev pub lies_here : Handle → ℕ → Bool → Presence
-lies_here h address true = Active h address
-lies_here h address false = Idle h address
-
--- an empty block is purged
+-- an empty block is purged, one that is locked is active, and any other idle
 abbrev pub lies_at : Handle → Option ℕ → Bool → Presence
 lies_at h None locked = Purged h
-lies_at h (Some address) locked = lies_here h address locked
+lies_at h (Some address) locked = if locked then Active h address else Idle h address
 
 abbrev pub lies_in : Handle → Option Block → Presence
 lies_in h None = Absent

@@ -28,12 +28,8 @@ abbrev pub of_running : UserSeen → Refuse → Refuse
 of_running seen rest = if is_running seen.life then rest else Some NotRunning
 
 -- the segment is there, and isn't skipped
-abbrev pub of_head : Option SegmentHead → (SegmentHead → Refuse) → Refuse
-of_head None rest = Some NoSegment
-of_head (Some head) rest = if is_skipped head.kind then Some NoSegment else rest head
-
 abbrev pub of_segment : UserSeen → ℕ → (SegmentHead → Refuse) → Refuse
-of_segment seen number rest = of_head (at_number seen.heads number) rest
+of_segment seen number rest = elim (at_number seen.heads number) [ None ↦ Some NoSegment | Some head ↦ if is_skipped head.kind then Some NoSegment else rest head ]
 
 -- it is dynamic
 abbrev pub of_dynamic : SegmentHead → Refuse → Refuse
@@ -46,10 +42,6 @@ of_active slots seen number rest = if is_active (presence_at slots seen.handles 
 -- the `count` bytes from an offset on are within LENGTH
 abbrev pub of_inside : ℕ → ℕ → SegmentHead → Refuse → Refuse
 of_inside at count head rest = if nat_le (at + count) head.length then rest else Some OutOfSegment
-
--- it is no jump table
-abbrev pub of_plain : SegmentHead → Refuse → Refuse
-of_plain head rest = if is_table head then Some TableByte else rest
 
 -- a load: 255 users were made, gone ones included
 unfoldable pub load_refusal : ℕ → Refuse
@@ -73,9 +65,10 @@ unfoldable pub unload_refusal : Slots → Option UserSeen → ℕ → Refuse
 unload_refusal slots user number = of_user user (λ seen. of_running seen (of_segment seen number (λ head.
     of_dynamic head (of_active slots seen number None))))
 
+-- a poke: no byte of a jump table is written
 unfoldable pub poke_refusal : Slots → Option UserSeen → ℕ → ℕ → Refuse
 poke_refusal slots user number at = of_user user (λ seen. of_running seen (of_segment seen number (λ head.
-    of_active slots seen number (of_plain head (of_inside at 1 head None)))))
+    of_active slots seen number (if is_table head then Some TableByte else of_inside at 1 head None))))
 
 -- a user that is attached to another is shut down and restarted with that one alone
 abbrev pub of_own : Bool → Refuse → Refuse
@@ -103,16 +96,12 @@ of_live (Some block) rest = rest block
 abbrev pub of_script : Block → Refuse → Refuse
 of_script block rest = if block.user == 0 then rest else Some LoaderOwned
 
--- its block is there
-abbrev pub of_there : Option ℕ → Refuse → Refuse
-of_there None rest = Some Empty
-of_there (Some address) rest = rest
-
 unfoldable pub state_refusal : Slots → Handle → Refuse
 state_refusal slots h = of_live (get slots h) (λ block. None)
 
 unfoldable pub free_refusal : Slots → Handle → Refuse
 free_refusal slots h = of_live (get slots h) (λ block. of_script block None)
 
+-- a change of a block: it is there
 unfoldable pub change_refusal : Slots → Handle → Refuse
-change_refusal slots h = of_live (get slots h) (λ block. of_script block (of_there block.at None))
+change_refusal slots h = of_live (get slots h) (λ block. of_script block (elim block.at [ None ↦ Some Empty | Some address ↦ None ]))

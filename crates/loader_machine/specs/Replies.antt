@@ -1,34 +1,17 @@
 -- The printed text of replies: one line each.
-use Rattle.std.specs.Prelude.{ℕ, Bool, true, false, List, [], ◌∷◌, ◌++◌, codes, Option, Some, None}
+use Rattle.std.specs.Prelude.{ℕ, List, [], ◌∷◌, ◌++◌, codes, Some, None, if◌then◌else◌}
 use Rattle.std.specs.List.{flat_map}
 use Rattle.omf_format.specs.Ascii as ascii
 use Rattle.omf_base.specs.Digits.{hexadecimal}
 use Rattle.load_meaning.specs.declared.load.LoadCause.{LoadCause}
 use Rattle.load_meaning.specs.declared.load.LoadCause.TheVariants as cause
-use Rattle.load_meaning.specs.declared.load.LoadFault.{LoadFault}
 use Rattle.iigs_meaning.specs.declared.handles.Handle.{Handle}
-use Rattle.iigs_meaning.specs.declared.wants.BlockState.{BlockState}
-use Rattle.loader_machine.specs.declared.seen.Presence.{Presence}
 use Rattle.loader_machine.specs.declared.seen.Presence.TheVariants.{Absent, Purged, Idle, Active}
 use Rattle.loader_machine.specs.declared.faults.LoaderFault.{LoaderFault}
 use Rattle.loader_machine.specs.declared.faults.LoaderFault.TheVariants as fault
 use Rattle.loader_machine.specs.Commands.{Reply, Okay, Started, MadeActive, Entered, Counted, Shown, Lies, Nothing, SegmentIs, Placed, BlockIs, RoomIs, Moved, Refused}
 
 -- ---- values
-
--- an address in six digits, or `none`
-unfoldable pub entry_text : Option ℕ → List ℕ
-entry_text None = codes "none"
-entry_text (Some address) = hexadecimal 6 address
-
--- a byte in two digits, after a space
-unfoldable pub other_text : ℕ → List ℕ
-other_text byte = codes " " ++ hexadecimal 2 byte
-
--- two digits for each byte, with one space between them
-unfoldable pub shown_text : List ℕ → List ℕ
-shown_text [] = []
-shown_text (byte ∷ bytes) = hexadecimal 2 byte ++ flat_map other_text bytes
 
 -- a handle in six digits: four of the slot and two of the generation
 unfoldable pub handle_text : Handle → List ℕ
@@ -37,27 +20,6 @@ handle_text h = hexadecimal 4 h.slot ++ hexadecimal 2 h.generation
 -- an address
 unfoldable pub at_text : ℕ → List ℕ
 at_text address = codes " at " ++ hexadecimal 6 address
-
--- whether and where a segment is in memory
-unfoldable pub presence_text : Presence → List ℕ
-presence_text Absent = codes "absent"
-presence_text (Purged h) = codes "purged " ++ handle_text h
-presence_text (Idle h address) = codes "idle " ++ handle_text h ++ at_text address
-presence_text (Active h address) = codes "active " ++ handle_text h ++ at_text address
-
-unfoldable pub lock_text : Bool → List ℕ
-lock_text true = codes " locked"
-lock_text false = codes " unlocked"
-
--- a block that is there at an address
-unfoldable pub there_text : ℕ → BlockState → List ℕ
-there_text address state = codes "at " ++ hexadecimal 6 address ++ codes " size " ++ hexadecimal 8 state.size
-    ++ codes " level " ++ hexadecimal 1 state.level ++ lock_text state.locked
-
--- a block, or that it was purged
-unfoldable pub block_text : Option ℕ → BlockState → List ℕ
-block_text None state = codes "empty"
-block_text (Some address) state = there_text address state
 
 -- ---- refusals
 
@@ -75,11 +37,8 @@ cause_text cause.DynamicTarget = codes "DynamicTarget"
 cause_text cause.BadTable = codes "BadTable"
 cause_text cause.Memory = codes "Memory"
 
--- the cause of a load file's fault, the segment's number in four digits, and the place in eight
-unfoldable pub bad_file_text : LoadFault → List ℕ
-bad_file_text bad = codes "refused BadFile " ++ cause_text bad.cause ++ codes " " ++ hexadecimal 4 bad.segment ++ codes " " ++ hexadecimal 8 bad.at
-
--- the name of a refusal; NoRoom and Changed are followed by the segment's number in four digits
+-- The name of a refusal; NoRoom and Changed are followed by the segment's number in four digits, BadFile by the cause of the load file's
+-- fault, the segment's number in four digits, and the place in eight.
 unfoldable pub refused_text : LoaderFault → List ℕ
 refused_text fault.NoUser = codes "refused NoUser"
 refused_text fault.NotRunning = codes "refused NotRunning"
@@ -94,7 +53,8 @@ refused_text fault.NoTarget = codes "refused NoTarget"
 refused_text fault.NotEntry = codes "refused NotEntry"
 refused_text fault.TooManyUsers = codes "refused TooManyUsers"
 refused_text fault.CannotRead = codes "cannot read"
-refused_text (fault.BadFile bad) = bad_file_text bad
+refused_text (fault.BadFile bad) =
+    codes "refused BadFile " ++ cause_text bad.cause ++ codes " " ++ hexadecimal 4 bad.segment ++ codes " " ++ hexadecimal 8 bad.at
 refused_text (fault.Changed kept found) = codes "refused Changed " ++ hexadecimal 4 found.segment
 refused_text fault.NoHandle = codes "refused NoHandle"
 refused_text (fault.NoRoom number) = codes "refused NoRoom " ++ hexadecimal 4 number
@@ -105,19 +65,31 @@ refused_text fault.Memory = codes "refused Memory"
 
 -- ---- replies
 
+-- the text of a reply: bytes in two digits each with one space between them, a block with its place, size, level and lock, or `empty`
 unfoldable pub reply_text : Reply → List ℕ
 reply_text Okay = codes "ok"
-reply_text (Started user entry) = codes "user " ++ hexadecimal 4 user ++ codes " entry " ++ entry_text entry
+reply_text (Started user entry) =
+    codes "user " ++ hexadecimal 4 user ++ codes " entry " ++ (elim entry [ None ↦ codes "none" | Some address ↦ hexadecimal 6 address ])
 reply_text (MadeActive segment address) = codes "active " ++ hexadecimal 4 segment ++ at_text address
 reply_text (Entered user segment offset address) =
     codes "entered " ++ hexadecimal 4 user ++ codes " " ++ hexadecimal 4 segment ++ codes " " ++ hexadecimal 8 offset ++ at_text address
 reply_text (Counted count) = codes "purged " ++ hexadecimal 4 count
-reply_text (Shown bytes) = shown_text bytes
+reply_text (Shown bytes) =
+    elim bytes [ [] ↦ [] | byte ∷ following ↦ hexadecimal 2 byte ++ flat_map (λ other. codes " " ++ hexadecimal 2 other) following ]
 reply_text (Lies user segment offset) = hexadecimal 4 user ++ codes " " ++ hexadecimal 4 segment ++ codes " " ++ hexadecimal 8 offset
 reply_text Nothing = codes "nothing"
-reply_text (SegmentIs presence length' kind) = presence_text presence ++ codes " length " ++ hexadecimal 8 length' ++ codes " kind " ++ hexadecimal 4 kind
+reply_text (SegmentIs presence length' kind) = (elim presence [
+  | Absent ↦ codes "absent"
+  | Purged h ↦ codes "purged " ++ handle_text h
+  | Idle h address ↦ codes "idle " ++ handle_text h ++ at_text address
+  | Active h address ↦ codes "active " ++ handle_text h ++ at_text address
+]) ++ codes " length " ++ hexadecimal 8 length' ++ codes " kind " ++ hexadecimal 4 kind
 reply_text (Placed h address) = codes "handle " ++ handle_text h ++ at_text address
-reply_text (BlockIs state) = block_text state.at state
+reply_text (BlockIs state) = elim state.at [
+  | None ↦ codes "empty"
+  | Some address ↦ codes "at " ++ hexadecimal 6 address ++ codes " size " ++ hexadecimal 8 state.size ++ codes " level " ++ hexadecimal 1 state.level
+      ++ (if state.locked then codes " locked" else codes " unlocked")
+]
 reply_text (RoomIs count) = hexadecimal 8 count
 reply_text (Moved count) = codes "moved " ++ hexadecimal 4 count
 reply_text (Refused fault) = refused_text fault

@@ -24,10 +24,6 @@ abbrev pub is_skipped : List ℕ → Bool
 is_skipped [] = true
 is_skipped (byte ∷ following) = byte == ascii.semicolon
 
--- the lines that aren't skipped
-abbrev pub written : List (List ℕ) → List (List ℕ)
-written lines = filter (λ line. not (is_skipped line)) lines
-
 -- ---- words
 
 -- the words of a line: what lies between its spaces
@@ -39,23 +35,16 @@ unfoldable pub is_word : List ℕ → Bool
 is_word word = nat_le 1 (length word) && nat_le (length word) 255
     && list_all (λ byte. nat_le ascii.exclamation byte && nat_le byte ascii.tilde) word
 
--- a line of at most 1,023 bytes, which are words with one space between them
-unfoldable pub is_well_formed : List ℕ → Bool
-is_well_formed line = nat_le (length line) 1023 && list_all is_word (words_of line)
-
 -- ---- numbers
-
--- a digit 0 to 9 or A to F; a to f is none
-abbrev pub is_hex_digit : ℕ → Bool
-is_hex_digit byte = (nat_le ascii.digit_0 byte && nat_le byte ascii.digit_9) || (nat_le ascii.capital_a byte && nat_le byte ascii.capital_f)
 
 -- the number that a word of hexadecimal digits writes
 unfoldable pub number_of : List ℕ → ℕ
 number_of word = digits_value 16 word
 
--- the word is 1 to 8 hexadecimal digits, and they write a number from the first bound to the second
+-- the word is 1 to 8 digits 0 to 9 and A to F, and they write a number from the first bound to the second
 unfoldable pub is_number : ℕ → ℕ → List ℕ → Bool
-is_number least most word = nat_le 1 (length word) && nat_le (length word) 8 && list_all is_hex_digit word
+is_number least most word = nat_le 1 (length word) && nat_le (length word) 8
+    && list_all (λ byte. (nat_le ascii.digit_0 byte && nat_le byte ascii.digit_9) || (nat_le ascii.capital_a byte && nat_le byte ascii.capital_f)) word
     && nat_le least (number_of word) && nat_le (number_of word) most
 
 -- ---- commands
@@ -90,81 +79,6 @@ unfoldable pub stands_twice : List ℕ → Bool
 stands_twice [] = false
 stands_twice (n ∷ following) = list_any (λ other. n == other) following || stands_twice following
 
--- `banks B B ..`: 1 to 256 numbers of banks, none of them twice
-unfoldable pub banks_of : List (List ℕ) → Result Command ScriptCause
-banks_of words =
-    if not (nat_le 1 (length words) && nat_le (length words) 256) then Err WrongCount
-    else if not (list_all (is_number 0 0xFF) words) then Err BadNumber
-    else if stands_twice (map number_of words) then Err BankTwice
-    else Ok (Banks (map number_of words))
-
--- `load PATH`
-unfoldable pub load_of : List (List ℕ) → Result Command ScriptCause
-load_of [] = Err WrongCount
-load_of (path ∷ []) = Ok (Load path)
-load_of (path ∷ more ∷ words) = Err WrongCount
-
--- how a program is shut down: kept or dropped
-abbrev pub is_manner : List ℕ → Bool
-is_manner word = bytes_eq word (codes "keep") || bytes_eq word (codes "drop")
-
--- `shutdown U keep` and `shutdown U drop`
-unfoldable pub shut_down_of : List (List ℕ) → Result Command ScriptCause
-shut_down_of (user ∷ manner ∷ []) =
-    if is_number 0 0xFFFF user && is_manner manner
-    then Ok (ShutDown (number_of user) (bytes_eq manner (codes "keep")))
-    else Err BadNumber
-shut_down_of words = Err WrongCount
-
--- the numbers of `jsl`: a user, a segment, and an offset
-abbrev pub are_jsl_numbers : List ℕ → List ℕ → List ℕ → Bool
-are_jsl_numbers user segment at = is_number 0 0xFFFF user && is_number 0 0xFFFF segment && is_number 0 0xFFFFFFFF at
-
--- `jsl U S OFF`
-unfoldable pub jsl_of : List (List ℕ) → Result Command ScriptCause
-jsl_of (user ∷ segment ∷ at ∷ []) =
-    if are_jsl_numbers user segment at then Ok (Jsl (number_of user) (number_of segment) (number_of at)) else Err BadNumber
-jsl_of words = Err WrongCount
-
--- the numbers of `poke`: a user, a segment, an offset, and a byte
-abbrev pub are_poke_numbers : List ℕ → List ℕ → List ℕ → List ℕ → Bool
-are_poke_numbers user segment at byte =
-    is_number 0 0xFFFF user && is_number 0 0xFFFF segment && is_number 0 0xFFFFFFFF at && is_number 0 0xFF byte
-
--- `poke U S OFF BYTE`
-unfoldable pub poke_of : List (List ℕ) → Result Command ScriptCause
-poke_of (user ∷ segment ∷ at ∷ byte ∷ []) =
-    if are_poke_numbers user segment at byte
-    then Ok (Poke (number_of user) (number_of segment) (number_of at) (number_of byte))
-    else Err BadNumber
-poke_of words = Err WrongCount
-
--- the numbers of `bytes`: a user, a segment, an offset, and a length of 1 to $100
-abbrev pub are_bytes_numbers : List ℕ → List ℕ → List ℕ → List ℕ → Bool
-are_bytes_numbers user segment at size =
-    is_number 0 0xFFFF user && is_number 0 0xFFFF segment && is_number 0 0xFFFFFFFF at && is_number 1 0x100 size
-
--- `bytes U S OFF LEN`
-unfoldable pub bytes_of : List (List ℕ) → Result Command ScriptCause
-bytes_of (user ∷ segment ∷ at ∷ size ∷ []) =
-    if are_bytes_numbers user segment at size
-    then Ok (Bytes (number_of user) (number_of segment) (number_of at) (number_of size))
-    else Err BadNumber
-bytes_of words = Err WrongCount
-
--- the numbers of `alloc`: a size of 1 to $1000000, ATTR, and an address
-abbrev pub are_alloc_numbers : List ℕ → List ℕ → List ℕ → Bool
-are_alloc_numbers size attributes address =
-    is_number 1 0x1000000 size && (is_number 0 0xFFFF attributes && is_attributes (number_of attributes)) && is_number 0 0xFFFFFF address
-
--- `alloc SIZE ATTR ADDR`
-unfoldable pub alloc_of : List (List ℕ) → Result Command ScriptCause
-alloc_of (size ∷ attributes ∷ address ∷ []) =
-    if are_alloc_numbers size attributes address
-    then Ok (Alloc (number_of size) (number_of attributes) (number_of address))
-    else Err BadNumber
-alloc_of words = Err WrongCount
-
 -- the one number of a command, up to a bound
 unfoldable pub one_number : ℕ → List (List ℕ) → Result ℕ ScriptCause
 one_number most (word ∷ []) = if is_number 0 most word then Ok (number_of word) else Err BadNumber
@@ -185,55 +99,48 @@ given_by command (Err cause) = Err cause
 abbrev pub handle_of : ℕ → Handle
 handle_of n = record { slot = n / 0x100; generation = n % 0x100 }
 
--- `room`
-unfoldable pub room_of : List (List ℕ) → Result Command ScriptCause
-room_of [] = Ok Room
-room_of (word ∷ words) = Err WrongCount
-
--- `compact`
-unfoldable pub compact_of : List (List ℕ) → Result Command ScriptCause
-compact_of [] = Ok Compact
-compact_of (word ∷ words) = Err WrongCount
-
--- the command that the words after its name give, or the first cause against them
+-- the command that the words after its name give, or the first cause against them: `banks` takes 1 to 256 numbers, none of them twice, and
+-- each other command its own count of words
 unfoldable pub words_command : CommandName → List (List ℕ) → Result Command ScriptCause
-words_command name.Banks words = banks_of words
-words_command name.Load words = load_of words
+words_command name.Banks words =
+    if not (nat_le 1 (length words) && nat_le (length words) 256) then Err WrongCount
+    else if not (list_all (is_number 0 0xFF) words) then Err BadNumber
+    else if stands_twice (map number_of words) then Err BankTwice
+    else Ok (Banks (map number_of words))
+words_command name.Load (path ∷ []) = Ok (Load path)
 words_command name.LoadSegment words = given_by (λ n. LoadSegment n.0 n.1) (two_numbers 0xFFFF 0xFFFF words)
 words_command name.UnloadSegment words = given_by (λ n. UnloadSegment n.0 n.1) (two_numbers 0xFFFF 0xFFFF words)
-words_command name.Jsl words = jsl_of words
-words_command name.ShutDown words = shut_down_of words
+words_command name.Jsl (user ∷ segment ∷ at ∷ []) =
+    if is_number 0 0xFFFF user && is_number 0 0xFFFF segment && is_number 0 0xFFFFFFFF at
+    then Ok (Jsl (number_of user) (number_of segment) (number_of at)) else Err BadNumber
+words_command name.ShutDown (user ∷ manner ∷ []) =
+    if is_number 0 0xFFFF user && (bytes_eq manner (codes "keep") || bytes_eq manner (codes "drop"))
+    then Ok (ShutDown (number_of user) (bytes_eq manner (codes "keep"))) else Err BadNumber
 words_command name.Restart words = given_by Restart (one_number 0xFFFF words)
 words_command name.Purge words = given_by Purge (one_number 0xFFFF words)
-words_command name.Poke words = poke_of words
-words_command name.Bytes words = bytes_of words
+words_command name.Poke (user ∷ segment ∷ at ∷ byte ∷ []) =
+    if is_number 0 0xFFFF user && is_number 0 0xFFFF segment && is_number 0 0xFFFFFFFF at && is_number 0 0xFF byte
+    then Ok (Poke (number_of user) (number_of segment) (number_of at) (number_of byte)) else Err BadNumber
+words_command name.Bytes (user ∷ segment ∷ at ∷ size ∷ []) =
+    if is_number 0 0xFFFF user && is_number 0 0xFFFF segment && is_number 0 0xFFFFFFFF at && is_number 1 0x100 size
+    then Ok (Bytes (number_of user) (number_of segment) (number_of at) (number_of size)) else Err BadNumber
 words_command name.Where words = given_by Where (one_number 0xFFFFFF words)
 words_command name.Info words = given_by (λ n. Info n.0 n.1) (two_numbers 0xFFFF 0xFFFF words)
-words_command name.Alloc words = alloc_of words
+words_command name.Alloc (size ∷ attributes ∷ address ∷ []) =
+    if is_number 1 0x1000000 size && (is_number 0 0xFFFF attributes && is_attributes (number_of attributes)) && is_number 0 0xFFFFFF address
+    then Ok (Alloc (number_of size) (number_of attributes) (number_of address)) else Err BadNumber
 words_command name.Free words = given_by (λ n. Free (handle_of n)) (one_number 0xFFFFFF words)
 words_command name.Lock words = given_by (λ n. Lock (handle_of n)) (one_number 0xFFFFFF words)
 words_command name.Unlock words = given_by (λ n. Unlock (handle_of n)) (one_number 0xFFFFFF words)
 words_command name.Level words = given_by (λ n. Level (handle_of n.0) n.1) (two_numbers 0xFFFFFF 3 words)
 words_command name.Handle words = given_by (λ n. StateOf (handle_of n)) (one_number 0xFFFFFF words)
-words_command name.Room words = room_of words
-words_command name.Compact words = compact_of words
+words_command name.Room [] = Ok Room
+words_command name.Compact [] = Ok Compact
+words_command _ _ = Err WrongCount
 
 abbrev pub is_banks : CommandName → Bool
 is_banks name.Banks = true
 is_banks _ = false
-
--- `banks` is the first command of a script, and no later one
-abbrev pub is_in_turn : CommandName → Bool → Bool
-is_in_turn name is_first = if is_banks name then is_first else not is_first
-
-abbrev pub named_command : Bool → Option CommandName → List (List ℕ) → Result Command ScriptCause
-named_command is_first None words = Err UnknownCommand
-named_command is_first (Some name) words = if is_in_turn name is_first then words_command name words else Err BanksFirst
-
--- the command that the words give by the first of them, or the first cause against them
-unfoldable pub command_of : Bool → List (List ℕ) → Result Command ScriptCause
-command_of is_first [] = Err UnknownCommand
-command_of is_first (name ∷ words) = named_command is_first (command_named name) words
 
 -- a handle that six digits write
 abbrev pub IsHandle : Handle → Type 0
@@ -271,9 +178,17 @@ abbrev pub AreCommands : Bool → List Command → Type 0
 AreCommands is_first [] = Unit {0}
 AreCommands is_first (command ∷ commands) = IsCommand is_first command × AreCommands false commands
 
--- the command of a line that isn't skipped
+-- The command of a line that isn't skipped, or the first cause against it: it has at most 1,023 bytes, which are words with one space between
+-- them, and the first word names a command; `banks` is the first command of a script, and no later one.
 unfoldable pub line_command : Bool → List ℕ → Result Command ScriptCause
-line_command is_first line = if is_well_formed line then command_of is_first (words_of line) else Err BadWord
+line_command is_first line =
+    if nat_le (length line) 1023 && list_all is_word (words_of line) then (elim (words_of line) [
+      | [] ↦ Err UnknownCommand
+      | word ∷ words ↦ elim (command_named word) [
+        | None ↦ Err UnknownCommand
+        | Some name ↦ if (if is_banks name then is_first else not is_first) then words_command name words else Err BanksFirst
+      ]
+    ]) else Err BadWord
 
 -- ---- scripts
 
@@ -288,7 +203,7 @@ Give is_first (line ∷ lines) (command ∷ commands) =
 -- no line is bad: there are at most 65,536, and those that aren't skipped give these commands
 pub record AreGood (lines : List (List ℕ)) (commands : List Command) : Type 0 where
   pub few : length lines ≤ most_lines
-  pub give : Give true (written lines) commands
+  pub give : Give true (filter (λ line. not (is_skipped line)) lines) commands
 
 -- the text is a script of these commands
 abbrev pub IsScript : List ℕ → List Command → Type 0

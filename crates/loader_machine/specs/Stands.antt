@@ -4,8 +4,6 @@ use Rattle.std.specs.Prelude.{ℕ, ◌+◌, ◌==◌, List, [], ◌∷◌, map, 
 use Rattle.std.specs.Option.{option_map, option_and_then}
 use Rattle.std.specs.FinMap.{get}
 use Rattle.omf_format.specs.File.{Segment}
-use Rattle.load_meaning.specs.declared.table.Target.{Target}
-use Rattle.load_meaning.specs.declared.table.Entry.{Entry}
 use Rattle.load_meaning.specs.Cells.{byte_of, cells}
 use Rattle.load_meaning.specs.Table.{table_bytes}
 use Rattle.load_meaning.specs.LoadTable.{is_table, targets_of}
@@ -21,35 +19,23 @@ pub record AddressSetting : Type 0 where
   pub place : ℕ → ℕ
   pub target : ℕ → ℕ → Option ℕ
 
--- the entry in memory of a table's target: it has the user's ID, and jumps to the target where that is active
-abbrev pub entry_for : AddressSetting → Target → Entry
-entry_for at t = record {
-  user = at.id;
-  file = t.file;
-  segment = t.segment;
-  offset = t.offset;
-  loaded = option_map (λ place. place + t.offset) (at.target t.file t.segment);
-}
-
--- the bytes of a table in memory
-unfoldable pub entries_bytes : AddressSetting → List Target → List ℕ
-entries_bytes at targets = table_bytes (map (entry_for at) targets)
-
--- the bytes of a segment as it is read
-unfoldable pub read_bytes : AddressSetting → Segment → List ℕ
-read_bytes at s = if is_table s then entries_bytes at (targets_of s) else map (byte_of at.place) (cells s)
-
 -- the bytes, of which the first has this place, with the pokes over them
 abbrev pub over_from : ℕ → Pokes → List ℕ → List ℕ
 over_from at pokes [] = []
 over_from at pokes (b ∷ bytes) = unwrap_or (get pokes at) b ∷ over_from (at + 1) pokes bytes
 
-unfoldable pub with_pokes : Pokes → List ℕ → List ℕ
-with_pokes pokes bytes = over_from 0 pokes bytes
-
--- the content of a segment
+-- The content of a segment: a table's entries, each of which has the user's ID and jumps to its target where that is active, or else the
+-- cells; and the pokes over them.
 unfoldable pub stands : AddressSetting → Pokes → Segment → List ℕ
-stands at pokes s = with_pokes pokes (read_bytes at s)
+stands at pokes s = over_from 0 pokes (if is_table s
+    then table_bytes (map (λ t. record {
+      user = at.id;
+      file = t.file;
+      segment = t.segment;
+      offset = t.offset;
+      loaded = option_map (λ place. place + t.offset) (at.target t.file t.segment);
+    }) (targets_of s))
+    else map (byte_of at.place) (cells s))
 
 -- ---- the setting of a user
 
@@ -61,21 +47,18 @@ place_in slots handles number = unwrap_or (there_at (presence_at slots handles n
 abbrev pub Far : Type 0
 Far = ℕ → ℕ → Option ℕ
 
--- no such segment is active
-abbrev pub no_far_segment : Far
-no_far_segment file number = None
-
--- the address of an active segment; file 1 is the user's own
-abbrev pub target_with : Far → Slots → List (Option Handle) → ℕ → ℕ → Option ℕ
-target_with far slots handles file number = if file == 1 then active_at (presence_at slots handles number) else far file number
-
--- the setting of the user with an ID, from the slots, the handles of its segments, and where those of attached users are active
+-- the setting of the user with an ID, from the slots, the handles of its segments, which a table names by file 1, and where those of attached
+-- users are active
 abbrev pub setting_with : Far → ℕ → Slots → List (Option Handle) → AddressSetting
-setting_with far id slots handles = record { id = id; place = place_in slots handles; target = target_with far slots handles }
+setting_with far id slots handles = record {
+  id = id;
+  place = place_in slots handles;
+  target = λ file number. if file == 1 then active_at (presence_at slots handles number) else far file number;
+}
 
 -- the setting of the user with an ID, where no segment of an attached user is active
 abbrev pub setting : ℕ → Slots → List (Option Handle) → AddressSetting
-setting id slots handles = setting_with no_far_segment id slots handles
+setting id slots handles = setting_with (λ file number. None) id slots handles
 
 -- where the segments of a user's attached users are active
 abbrev pub far_of : Slots → List (Option Outline) → ℕ → Far

@@ -1,6 +1,5 @@
 -- What a state of the loader's machine holds, and what is seen of a user. User IDs and limits are this project's own.
-use Rattle.std.specs.Prelude.{ℕ, zero, suc, ◌+◌, ◌-◌, ◌==◌, Bool, true, false, List, [], ◌∷◌, ◌++◌, map, nat_lt, Option, Some, None, is_some, slice_get, slice_set, if◌then◌else◌}
-use Rattle.std.specs.List.{flat_map}
+use Rattle.std.specs.Prelude.{ℕ, zero, suc, ◌+◌, ◌-◌, ◌==◌, Bool, true, false, List, [], ◌∷◌, map, nat_lt, Option, Some, None, is_some, slice_get, slice_set, if◌then◌else◌}
 use Rattle.std.specs.Option.{option_map, option_or, option_and_then, option_map_or}
 use Rattle.std.specs.FinMap.{FinMap, empty}
 use Rattle.std.specs.Ordering.{nat_cmp}
@@ -120,16 +119,9 @@ is_attached users id = is_some (holder_of users id)
 abbrev pub led_by : List (Option Outline) → ℕ → ℕ × ℕ
 led_by users id = option_map_or (λ one. one) (holder_of users id) (id, 1)
 
--- the users that are attached to a user, and it itself
-abbrev pub family : ℕ → List ℕ → List ℕ
-family id attached = attached ++ id ∷ []
-
 -- the handles of all segments of the user of an ID, and of the users of all these
 abbrev pub handles_in : List (Option Outline) → ℕ → List (Option Handle)
 handles_in users id = option_map_or (λ user. user.handles) (user_of users id) []
-
-abbrev pub handles_of_all : List (Option Outline) → List ℕ → List (Option Handle)
-handles_of_all users ids = flat_map (handles_in users) ids
 
 -- the users, with those of these IDs changed so
 abbrev pub with_all : {U : Type 0} → (U → U) → List (Option U) → List ℕ → List (Option U)
@@ -140,12 +132,6 @@ with_all change users (id ∷ ids) = with_all change (option_map_or (λ user. wi
 abbrev pub without_all : {U : Type 0} → List (Option U) → List ℕ → List (Option U)
 without_all users [] = users
 without_all users (id ∷ ids) = without_all (with_user users id None) ids
-
-abbrev pub runs_again : User → User
-runs_again user = record user { life = Running }
-
-abbrev pub dormant_user : User → User
-dormant_user user = record user { life = Dormant }
 
 -- a given number of IDs, from one on
 abbrev pub ids_from : ℕ → ℕ → List ℕ

@@ -1,9 +1,9 @@
 -- What each command does to the machine, and what it answers. A refused command leaves the state. These are this project's own
 -- rules (GS/OS Reference, "System Loader", is the model for users, dynamic segments, shutdown and restart).
-use Rattle.std.specs.Prelude.{◌≡◌, ℕ, ◌+◌, ◌-◌, ◌^◌, ◌==◌, ◌<◌, ◌≤◌, ◌&&◌, ◌||◌, nat_le, nat_lt, Bool, true, false, List, [], ◌∷◌, ◌++◌, length, map, take, drop, count_by, Option, Some, None, IsSome, is_some, slice_get, slice_set, slice_index, if◌then◌else◌}
+use Rattle.std.specs.Prelude.{◌≡◌, ℕ, ◌+◌, ◌-◌, ◌^◌, ◌==◌, ◌<◌, ◌≤◌, ◌&&◌, ◌||◌, nat_le, nat_lt, Bool, true, false, List, [], ◌∷◌, ◌++◌, length, map, take, drop, count_by, Option, Some, None, IsSome, is_some, slice_get, slice_set, slice_index, if◌then◌else◌, not, ◌%◌, ◌/◌}
 use Rattle.std.specs.Option.{option_map, option_map_or, option_and_then}
 use Rattle.std.specs.FinMap.{insert}
-use Rattle.omf_format.specs.Header.{is_reload}
+use Rattle.omf_format.specs.Header.{is_reload, has_attribute}
 use Rattle.omf_format.specs.Number.{number_at}
 use Rattle.omf_format.specs.File.{Segment, segment_at}
 use Rattle.omf_io.specs.Files.{FileMap}
@@ -25,14 +25,14 @@ use Rattle.iigs_meaning.specs.Slide.{Slides, count_moved}
 use Rattle.load_meaning.specs.declared.load.LoadFault.{LoadFault}
 use Rattle.load_meaning.specs.declared.load.LoadCause.TheVariants as cause
 use Rattle.loader_machine.specs.declared.faults.LoaderFault.TheVariants.{NotJsl, NoTarget, NotEntry, CannotRead, BadFile, NoHandle, NoRoom}
-use Rattle.loader_machine.specs.Heads.{SegmentHead, head_of, at_number, is_static, is_table, want_of, wants_of, number_of, entry_in}
-use Rattle.loader_machine.specs.State.{Running, HeldSegment, User, Machine, absent, fresh, UserSeen, empty_of, first_id, user_of, with_user, handles_of, held_at, outlines, named_by, is_attached, family, handles_of_all, with_all, without_all, runs_again, dormant_user, ids_from}
-use Rattle.loader_machine.specs.Presences.{Presence, Absent, Purged, Idle, Active, presence_at, handle_at, is_there}
-use Rattle.loader_machine.specs.Stands.{AddressSetting, stands, setting, setting_with, far_of}
+use Rattle.loader_machine.specs.Heads.{SegmentHead, head_of, at_number, is_static, is_table, want_of, wants_of, number_of, entry_in, some_if}
+use Rattle.loader_machine.specs.State.{Running, Dormant, HeldSegment, User, Machine, absent, fresh, UserSeen, empty_of, first_id, user_of, with_user, handles_of, held_at, outlines, named_by, is_attached, with_all, without_all, ids_from, handles_in}
+use Rattle.loader_machine.specs.Presences.{Absent, Purged, Idle, Active, presence_at, handle_at, is_there}
+use Rattle.loader_machine.specs.Stands.{stands, setting_with, far_of, place_in}
 use Rattle.loader_machine.specs.Found.{HoldsLoad, FileFound, Unread, Bad, Good, IsFound, Joined, Stops, Joins, AreJoined}
-use Rattle.loader_machine.specs.Alloc.{alloc_want, is_locked, level_in, is_movable}
 use Rattle.loader_machine.specs.Commands.{Command, Banks, Load, LoadSegment, UnloadSegment, Jsl, ShutDown, Restart, Purge, Poke, Bytes, Where, Info, Alloc, Free, Lock, Unlock, Level, StateOf, Room, Compact, Reply, Okay, Started, MadeActive, Entered, Counted, Shown, Lies, Nothing, SegmentIs, Placed, BlockIs, RoomIs, Moved, Refused}
 use Rattle.loader_machine.specs.Refusals.{Refuse, load_refusal, rows_refusal, bytes_refusal, info_refusal, load_segment_refusal, unload_refusal, poke_refusal, shut_down_refusal, restart_refusal, purge_refusal, state_refusal, free_refusal, change_refusal}
+use Rattle.std.specs.List.{flat_map}
 
 -- ---- what is seen of users
 
@@ -101,11 +101,6 @@ changed_all change slots [] = slots
 changed_all change slots (None ∷ handles) = changed_all change slots handles
 changed_all change slots (Some h ∷ handles) = changed_all change (with_block_changed change slots h) handles
 
--- the segment with a number becomes idle, if it has a handle
-abbrev pub with_segment_idle : Slots → Option Handle → Slots
-with_segment_idle slots None = slots
-with_segment_idle slots (Some h) = with_block_changed idle_block slots h
-
 -- ---- placement of all static segments
 
 -- the outcome of placing blocks for all wants: too few free slots; the first want, from 0, that has no room; or handles and slots
@@ -113,11 +108,6 @@ pub data Put : Type 0 where
   NoSlots : Put
   Lacks : (place : ℕ) → Put
   PutIn : (handles : List Handle) (slots : Slots) → Put
-
-abbrev pub IsPut : MakesRoom → List ℕ → ℕ → Slots → List Want → Put → Type 0
-IsPut Makes banks user slots wants NoSlots = IsPlaceAllRefusal Makes banks user slots wants place.NoHandle
-IsPut Makes banks user slots wants (Lacks i) = IsPlaceAllRefusal Makes banks user slots wants (place.NoRoom i)
-IsPut Makes banks user slots wants (PutIn handles last) = (length wants ≤ count_by is_free slots) × PutsAll Makes banks user slots wants handles last
 
 -- what is held of segments whose static ones have these handles, in order
 abbrev pub held_of_heads : List SegmentHead → List Handle → List HeldSegment
@@ -127,49 +117,41 @@ held_of_heads (head ∷ heads) (h ∷ hs) = if is_static head then fresh (Some h
 
 -- where a user begins
 abbrev pub entry_of : ℕ → Slots → List SegmentHead → List (Option Handle) → Option ℕ
-entry_of id slots heads handles = entry_in heads ((setting id slots handles).place) 1
-
--- a running user whose static segments have these handles
-abbrev pub started_user : List ℕ → List SegmentHead → List Handle → User
-started_user path heads handles = record { path = path; life = Running; segments = held_of_heads heads handles; attached = [] }
-
--- the static segments of a program are placed, and the users are these then
-abbrev pub Lands : Machine → List ℕ → ℕ → List SegmentHead → (User → List (Option User)) → Put → Reply → Machine → Type 0
-Lands state path id heads users NoSlots reply next = (reply ≡ Refused NoHandle) × (next ≡ state)
-Lands state path id heads users (Lacks i) reply next = (reply ≡ Refused (NoRoom (number_of 1 heads i))) × (next ≡ state)
-Lands state path id heads users (PutIn handles slots) reply next =
-    let user = started_user path heads handles in
-    (reply ≡ Started id (entry_of id slots heads (handles_of user)))
-    × (next ≡ record { banks = state.banks; slots = slots; users = users user })
+entry_of id slots heads handles = entry_in heads (place_in slots handles) 1
 
 -- a program begins: its static segments are placed among these slots, in order of number
 pub record Begins (Makes : MakesRoom) (state : Machine) (slots : Slots) (path : List ℕ) (id : ℕ) (segments : List Segment) (users : User → List (Option User)) (reply : Reply) (next : Machine) : Type 0 where
   pub put : Put
-  pub is_put : IsPut Makes state.banks id slots (wants_of (map head_of segments)) put
-  pub lands : Lands state path id (map head_of segments) users put reply next
+  pub is_put : let wants = wants_of (map head_of segments) in elim put as (λ outcome. Type 0) [
+    | NoSlots ↦ IsPlaceAllRefusal Makes state.banks id slots wants place.NoHandle
+    | Lacks i ↦ IsPlaceAllRefusal Makes state.banks id slots wants (place.NoRoom i)
+    | PutIn handles last ↦ (length wants ≤ count_by is_free slots) × PutsAll Makes state.banks id slots wants handles last
+  ]
+  pub lands : let heads = map head_of segments in elim put as (λ outcome. Type 0) [
+    | NoSlots ↦ (reply ≡ Refused NoHandle) × (next ≡ state)
+    | Lacks i ↦ (reply ≡ Refused (NoRoom (number_of 1 heads i))) × (next ≡ state)
+    | PutIn handles last ↦ let user : User = record { path = path; life = Running; segments = held_of_heads heads handles; attached = [] } in
+        (reply ≡ Started id (entry_of id last heads (handles_of user)))
+        × (next ≡ record { banks = state.banks; slots = last; users = users user })
+  ]
 
 -- ---- load
 
--- a running user that is attached to another: none of its segments is there
-abbrev pub joined_user : List ℕ → List SegmentHead → User
-joined_user path heads = record { path = path; life = Running; segments = map (λ head. absent) heads; attached = [] }
-
--- such a user for each row
+-- a running user for each row, attached to another: none of its segments is there
 abbrev pub joined_users : List (List ℕ) → List (List Segment) → List (Option User)
 joined_users [] all = []
 joined_users (path ∷ paths) [] = []
-joined_users (path ∷ paths) (segments ∷ all) = Some (joined_user path (map head_of segments)) ∷ joined_users paths all
+joined_users (path ∷ paths) (segments ∷ all) =
+    Some (record { path = path; life = Running; segments = map (λ head. absent) (map head_of segments); attached = [] }) ∷ joined_users paths all
 
--- an entry for file 1 leads into the user's own file; one for another leads to a segment of that attached user, of which these are
--- the headers, and to an offset below its LENGTH
-abbrev pub is_reached : List (List SegmentHead) → Target → Bool
-is_reached attached t = nat_le t.file 1 || option_map_or (λ heads. option_map_or (λ head. nat_lt t.offset head.length) (at_number heads t.segment) false)
-    (slice_get attached (t.file - 2)) false
-
--- the first entry that leads nowhere, where the first has this place
+-- The first entry that leads nowhere, where the first has this place. One for file 1 leads into the user's own file; one for another leads to a
+-- segment of that attached user, of which these are the headers, and to an offset below its LENGTH.
 abbrev pub lost_from : List (List SegmentHead) → ℕ → List Target → Option ℕ
 lost_from attached k [] = None
-lost_from attached k (t ∷ targets) = if is_reached attached t then lost_from attached (k + 1) targets else Some k
+lost_from attached k (t ∷ targets) =
+    if nat_le t.file 1
+    || option_map_or (λ heads. option_map_or (λ head. nat_lt t.offset head.length) (at_number heads t.segment) false) (slice_get attached (t.file - 2)) false
+    then lost_from attached (k + 1) targets else Some k
 
 -- and the fault that it is: in the table, at the entry
 abbrev pub lost_in : List (List SegmentHead) → List Segment → ℕ → Option LoadFault
@@ -179,28 +161,21 @@ lost_in attached segments number = option_and_then (λ s. option_map (λ k. reco
 unfoldable pub lost_refusal : List (List SegmentHead) → List Segment → Refuse
 lost_refusal attached segments = option_map BadFile (option_and_then (lost_in attached segments) (table_of segments))
 
--- the users where one more begins, and after it one for each row, attached to it
-abbrev pub begun_users : Machine → List (List ℕ) → List (List Segment) → User → List (Option User)
-begun_users state paths all user = state.users
-    ++ Some (record user { attached = ids_from (first_id + length state.users + 1) (length paths) }) ∷ joined_users paths all
-
--- by the outcome of the rows: the program begins, with a user more for each row, attached to it
-abbrev pub LoadsJoined : MakesRoom → Machine → List ℕ → List Segment → Joined → Reply → Machine → Type 0
-LoadsJoined Makes state path segments (Stops reads why) reply next = (reply ≡ Refused why) × (next ≡ state)
-LoadsJoined Makes state path segments (Joins all) reply next = Decides (lost_refusal (map (map head_of) all) segments) state reply next
-    (Begins Makes state state.slots path (first_id + length state.users) segments (begun_users state (paths_of segments) all) reply next)
-
--- by what the read of the path finds
-abbrev pub LoadsFound : MakesRoom → FileMap → Machine → List ℕ → FileFound → Reply → Machine → Type 0
-LoadsFound Makes held state path Unread reply next = (reply ≡ Refused CannotRead) × (next ≡ state)
-LoadsFound Makes held state path (Bad fault) reply next = (reply ≡ Refused (BadFile fault)) × (next ≡ state)
-LoadsFound Makes held state path (Good segments) reply next =
-    Decides (rows_refusal (length state.users) (length (paths_of segments))) state reply next
-    ((joined : Joined) × AreJoined held (paths_of segments) joined × LoadsJoined Makes state path segments joined reply next)
-
+-- by what the read of the path finds, and by the outcome of the rows: the program begins, with a user more for each row, attached to it
 abbrev pub StepsLoad : MakesRoom → FileMap → Machine → List ℕ → Reply → Machine → Type 0
 StepsLoad Makes held state path reply next = Decides (load_refusal (length state.users)) state reply next
-    ((found : FileFound) × IsFound held path found × LoadsFound Makes held state path found reply next)
+    ((found : FileFound) × IsFound held path found × (elim found [
+      | Unread ↦ (reply ≡ Refused CannotRead) × (next ≡ state)
+      | Bad fault ↦ (reply ≡ Refused (BadFile fault)) × (next ≡ state)
+      | Good segments ↦ let rows = paths_of segments in let id = first_id + length state.users in
+          Decides (rows_refusal (length state.users) (length rows)) state reply next
+          ((joined : Joined) × AreJoined held rows joined × (elim joined [
+            | Stops reads why ↦ (reply ≡ Refused why) × (next ≡ state)
+            | Joins all ↦ Decides (lost_refusal (map (map head_of) all) segments) state reply next
+                (Begins Makes state state.slots path id segments
+                (λ user. state.users ++ Some (record user { attached = ids_from (id + 1) (length rows) }) ∷ joined_users rows all) reply next)
+          ]))
+    ]))
 
 -- ---- activation
 
@@ -210,62 +185,44 @@ pub data Activation : Type 0 where
   OutOfRoom : Activation
   Made : (address : ℕ) (next : Machine) → Activation
 
--- an active segment stays
-abbrev pub StaysActive : Machine → ℕ → Activation → Type 0
-StaysActive state address outcome = outcome ≡ Made address state
-
--- an idle one is locked with level 0, and keeps its pokes
-abbrev pub Wakes : Machine → Handle → ℕ → Activation → Type 0
-Wakes state h address outcome = outcome ≡ Made address (with_slots state (with_block_changed active_block state.slots h))
-
--- a purged one is read again and placed under its old handle
-abbrev pub ComesAnew : MakesRoom → Machine → ℕ → User → ℕ → Want → Handle → Activation → Type 0
-ComesAnew Makes state id user number want h OutOfSlots = ⊥
-ComesAnew Makes state id user number want h OutOfRoom = LacksRoom Makes state.banks state.slots want
-ComesAnew Makes state id user number want h (Made address next) = (slots : Slots) × (puts : PutsAnew Makes state.banks state.slots h want slots)
-    × (puts.address ≡ address) × (next ≡ with_both state id (with_block_changed active_block slots h) (Some (with_segment user number (fresh (Some h)))))
-
--- an absent one is read and placed under a new handle
-abbrev pub ComesFirst : MakesRoom → Machine → ℕ → User → ℕ → Want → Activation → Type 0
-ComesFirst Makes state id user number want OutOfSlots = new_handle state.slots ≡ None
-ComesFirst Makes state id user number want OutOfRoom = IsSome (new_handle state.slots) × LacksRoom Makes state.banks state.slots want
-ComesFirst Makes state id user number want (Made address next) = (h : Handle) × (slots : Slots)
-    × (puts : Puts Makes state.banks state.slots want id true 0 false h slots)
-    × (puts.address ≡ address) × (next ≡ with_both state id slots (Some (with_segment user number (fresh (Some h)))))
-
--- a segment of a user is made active
-abbrev pub Activates : MakesRoom → Machine → ℕ → User → ℕ → Want → Presence → Activation → Type 0
-Activates Makes state id user number want (Active h address) outcome = StaysActive state address outcome
-Activates Makes state id user number want (Idle h address) outcome = Wakes state h address outcome
-Activates Makes state id user number want (Purged h) outcome = ComesAnew Makes state id user number want h outcome
-Activates Makes state id user number want Absent outcome = ComesFirst Makes state id user number want outcome
-
--- the reply of an outcome, where that of a segment at an address is this
-abbrev pub Answers : Machine → ℕ → Activation → (ℕ → Reply) → Reply → Machine → Type 0
-Answers state number OutOfSlots of reply next = (reply ≡ Refused NoHandle) × (next ≡ state)
-Answers state number OutOfRoom of reply next = (reply ≡ Refused (NoRoom number)) × (next ≡ state)
-Answers state number (Made address last) of reply next = (reply ≡ of address) × (next ≡ last)
-
--- the segment with a number is made active
+-- The segment with a number is made active: an active one stays, and an idle one is locked with level 0, and keeps its pokes; a purged one is
+-- read again and placed under its old handle, and an absent one is read and placed under a new handle.
 pub record MakesActive (Makes : MakesRoom) (held : FileMap) (state : Machine) (id number : ℕ) (of : ℕ → Reply) (reply : Reply) (next : Machine) : Type 0 where
   pub sees : Sees held state id
   pub s : Segment
   pub is : segment_at sees.segments number ≡ Some s
   pub outcome : Activation
-  pub activates : Activates Makes state id sees.user number (want_of (head_of s)) (presence_at state.slots (handles_of sees.user) number) outcome
-  pub answers : Answers state number outcome of reply next
+  pub activates : let user = sees.user in let want = want_of (head_of s) in elim (presence_at state.slots (handles_of user) number) as (λ presence. Type 0) [
+    | Active h address ↦ outcome ≡ Made address state
+    | Idle h address ↦ outcome ≡ Made address (with_slots state (with_block_changed active_block state.slots h))
+    | Purged h ↦ elim outcome [
+      | OutOfSlots ↦ ⊥
+      | OutOfRoom ↦ LacksRoom Makes state.banks state.slots want
+      | Made address last ↦ (slots : Slots) × (puts : PutsAnew Makes state.banks state.slots h want slots) × (puts.address ≡ address)
+          × (last ≡ with_both state id (with_block_changed active_block slots h) (Some (with_segment user number (fresh (Some h)))))
+    ]
+    | Absent ↦ elim outcome [
+      | OutOfSlots ↦ new_handle state.slots ≡ None
+      | OutOfRoom ↦ IsSome (new_handle state.slots) × LacksRoom Makes state.banks state.slots want
+      | Made address last ↦ (h : Handle) × (slots : Slots) × (puts : Puts Makes state.banks state.slots want id true 0 false h slots)
+          × (puts.address ≡ address) × (last ≡ with_both state id slots (Some (with_segment user number (fresh (Some h)))))
+    ]
+  ]
+  pub answers : elim outcome as (λ one. Type 0) [
+    | OutOfSlots ↦ (reply ≡ Refused NoHandle) × (next ≡ state)
+    | OutOfRoom ↦ (reply ≡ Refused (NoRoom number)) × (next ≡ state)
+    | Made address last ↦ (reply ≡ of address) × (next ≡ last)
+  ]
 
 -- ---- the content of a user's segment
 
--- where the segments of the user of an ID are, and where those that its table names
-abbrev pub setting_in : Machine → ℕ → User → AddressSetting
-setting_in state id user = setting_with (far_of state.slots (outlines state.users) id) id state.slots (handles_of user)
-
+-- the segment with a number has this content, by where the segments of the user are, and those that its table names
 pub record StandsIn (held : FileMap) (state : Machine) (id number : ℕ) (bytes : List ℕ) : Type 0 where
   pub sees : Sees held state id
   pub s : Segment
   pub is : segment_at sees.segments number ≡ Some s
-  pub bytes_are : bytes ≡ stands (setting_in state id sees.user) (held_at sees.user number).pokes s
+  pub bytes_are : bytes ≡ stands (setting_with (far_of state.slots (outlines state.users) id) id state.slots (handles_of sees.user))
+      (held_at sees.user number).pokes s
 
 -- ---- where an address lies
 
@@ -289,33 +246,12 @@ abbrev pub IsLocated : FileMap → Machine → ℕ → AddressPlace → Type 0
 IsLocated held state address Nowhere = (id number offset : ℕ) → ¬ IsAt held state address id number offset
 IsLocated held state address (In id number offset) = IsAt held state address id number offset
 
-abbrev pub place_reply : AddressPlace → Reply
-place_reply Nowhere = Nothing
-place_reply (In id number offset) = Lies id number offset
-
 -- ---- jsl
 
 -- the target of the table's entry whose code is at an offset, where the first target is that of the entry at this place
 abbrev pub target_at_code : List Target → ℕ → ℕ → Option Target
 target_at_code [] k offset = None
 target_at_code (t ∷ targets) k offset = if entry_place k == offset then Some t else target_at_code targets (k + 1) offset
-
--- in a table: the entry's segment, of the user that the entry names, is made active, and entered at the entry's offset
-abbrev pub EntersEntry : MakesRoom → FileMap → Machine → ℕ → Option Target → Reply → Machine → Type 0
-EntersEntry Makes held state id None reply next = (reply ≡ Refused NotEntry) × (next ≡ state)
-EntersEntry Makes held state id (Some t) reply next = (other : ℕ) × (named_by (outlines state.users) id t.file ≡ Some other)
-    × MakesActive Makes held state other t.segment (λ address. Entered other t.segment t.offset (address + t.offset)) reply next
-
--- the segment in which the address lies: outside a table it is entered there
-abbrev pub EntersSegment : MakesRoom → FileMap → Machine → ℕ → ℕ → ℕ → ℕ → Segment → Reply → Machine → Type 0
-EntersSegment Makes held state address id number offset s reply next = Either (is_table (head_of s))
-    (EntersEntry Makes held state id (target_at_code (targets_of s) 0 offset) reply next)
-    ((reply ≡ Entered id number offset address) × (next ≡ state))
-
-abbrev pub Enters : MakesRoom → FileMap → Machine → ℕ → AddressPlace → Reply → Machine → Type 0
-Enters Makes held state address Nowhere reply next = (reply ≡ Refused NoTarget) × (next ≡ state)
-Enters Makes held state address (In id number offset) reply next = (sees : Sees held state id) × (s : Segment)
-    × (segment_at sees.segments number ≡ Some s) × EntersSegment Makes held state address id number offset s reply next
 
 -- the first of the four bytes is that of a JSL ($22)
 abbrev pub no_jsl : List ℕ → Refuse
@@ -325,39 +261,43 @@ no_jsl bytes = if slice_index bytes 0 == 0x22 then None else Some NotJsl
 abbrev pub address_of : List ℕ → ℕ
 address_of bytes = number_at 3 1 bytes
 
--- four bytes of the segment's content are followed
+-- Four bytes of the segment's content are followed to the segment in which their address lies. It is entered there, or, if it is a table,
+-- the segment of the entry at that place, of the user that the entry names, is made active, and entered at the entry's offset.
 pub record StepsJsl (Makes : MakesRoom) (held : FileMap) (state : Machine) (id number at : ℕ) (reply : Reply) (next : Machine) : Type 0 where
   pub bytes : List ℕ
   pub stands : StandsIn held state id number bytes
-  pub is : let four = take 4 (drop at bytes) in Decides (no_jsl four) state reply next
-      ((place : AddressPlace) × IsLocated held state (address_of four) place × Enters Makes held state (address_of four) place reply next)
+  pub is : let four = take 4 (drop at bytes) in let address = address_of four in Decides (no_jsl four) state reply next
+      ((place : AddressPlace) × IsLocated held state address place × (elim place [
+        | Nowhere ↦ (reply ≡ Refused NoTarget) × (next ≡ state)
+        | In id number offset ↦ (sees : Sees held state id) × (s : Segment) × (segment_at sees.segments number ≡ Some s) × Either (is_table (head_of s))
+            (elim (target_at_code (targets_of s) 0 offset) [
+              | None ↦ (reply ≡ Refused NotEntry) × (next ≡ state)
+              | Some t ↦ (other : ℕ) × (named_by (outlines state.users) id t.file ≡ Some other)
+                  × MakesActive Makes held state other t.segment (λ address. Entered other t.segment t.offset (address + t.offset)) reply next
+            ])
+            ((reply ≡ Entered id number offset address) × (next ≡ state))
+      ]))
 
 -- ---- shutdown and restart
-
--- kept: every active segment of the user and of those attached to it becomes idle, and they are dormant
-abbrev pub kept_state : Machine → ℕ → User → Machine
-kept_state state id user = record {
-  banks = state.banks;
-  slots = changed_all let_go state.slots (handles_of_all (outlines state.users) (family id user.attached));
-  users = with_all dormant_user state.users (family id user.attached);
-}
 
 -- the slots once all handles of these users were released
 abbrev pub without_users : Slots → List ℕ → Slots
 without_users slots [] = slots
 without_users slots (id ∷ ids) = without_users (without_user slots id) ids
 
--- dropped: their handles are released, and they are gone
-abbrev pub dropped_state : Machine → ℕ → User → Machine
-dropped_state state id user = record {
-  banks = state.banks;
-  slots = without_users state.slots (family id user.attached);
-  users = without_all state.users (family id user.attached);
-}
-
+-- kept, every active segment of the user and of those attached to it becomes idle, and they are dormant; dropped, their handles are released,
+-- and they are gone
 abbrev pub StepsShutDown : Machine → ℕ → Bool → User → Machine → Type 0
-StepsShutDown state id true user next = next ≡ kept_state state id user
-StepsShutDown state id false user next = next ≡ dropped_state state id user
+StepsShutDown state id true user next = next ≡ record {
+  banks = state.banks;
+  slots = changed_all let_go state.slots (flat_map (handles_in (outlines state.users)) (user.attached ++ id ∷ []));
+  users = with_all (λ one. record one { life = Dormant }) state.users (user.attached ++ id ∷ []);
+}
+StepsShutDown state id false user next = next ≡ record {
+  banks = state.banks;
+  slots = without_users state.slots (user.attached ++ id ∷ []);
+  users = without_all state.users (user.attached ++ id ∷ []);
+}
 
 -- every static segment is there
 abbrev pub are_there : Slots → List SegmentHead → List (Option Handle) → ℕ → Bool
@@ -381,27 +321,21 @@ read_again [] held = held
 read_again (head ∷ heads) [] = []
 read_again (head ∷ heads) (one ∷ held) = (if is_read_again head then fresh one.handle else one) ∷ read_again heads held
 
--- in place: the static segments become active, and those with the reload attribute lose their pokes
-abbrev pub RestartsInPlace : Machine → ℕ → User → List SegmentHead → Reply → Machine → Type 0
-RestartsInPlace state id user heads reply next =
-    let slots = changed_all active_block state.slots (static_handles heads (handles_of user) 1) in
-    (reply ≡ Started id (entry_of id slots heads (handles_of user)))
-    × (next ≡ record {
-      banks = state.banks;
-      slots = slots;
-      users = with_all runs_again (with_user state.users id (Some (record user { life = Running; segments = read_again heads user.segments }))) user.attached;
-    })
-
--- the users where that of an ID begins again as this one: it keeps those attached to it, and they run
-abbrev pub again_users : Machine → ℕ → User → User → List (Option User)
-again_users state id was user = with_all runs_again (with_user state.users id (Some (record user { attached = was.attached }))) was.attached
-
--- where every static segment is there it restarts in place; else its handles are released, and it begins as at a load
+-- Where every static segment is there it restarts in place: they become active, and those with the reload attribute lose their pokes. Else its
+-- handles are released, and it begins as at a load. It keeps the users attached to it, and they run.
 pub record StepsRestart (Makes : MakesRoom) (held : FileMap) (state : Machine) (id : ℕ) (reply : Reply) (next : Machine) : Type 0 where
   pub sees : Sees held state id
-  pub is : Either (are_there state.slots (map head_of sees.segments) (handles_of sees.user) 1)
-      (RestartsInPlace state id sees.user (map head_of sees.segments) reply next)
-      (Begins Makes state (without_user state.slots id) sees.user.path id sees.segments (again_users state id sees.user) reply next)
+  pub is : let user = sees.user in let heads = map head_of sees.segments in let runs : User → User = λ one. record one { life = Running } in
+      Either (are_there state.slots heads (handles_of user) 1)
+      (let slots = changed_all active_block state.slots (static_handles heads (handles_of user) 1) in
+      (reply ≡ Started id (entry_of id slots heads (handles_of user)))
+      × (next ≡ record {
+        banks = state.banks;
+        slots = slots;
+        users = with_all runs (with_user state.users id (Some (record user { life = Running; segments = read_again heads user.segments }))) user.attached;
+      }))
+      (Begins Makes state (without_user state.slots id) user.path id sees.segments
+      (λ new. with_all runs (with_user state.users id (Some (record new { attached = user.attached }))) user.attached) reply next)
 
 -- ---- the script's own blocks
 
@@ -427,7 +361,10 @@ Steps Makes held state (Load path) reply next = StepsLoad Makes held state path 
 Steps Makes held state (LoadSegment id number) reply next = Does held state id (λ seen. load_segment_refusal seen number) reply next
     (λ user. MakesActive Makes held state id number (MadeActive number) reply next)
 Steps Makes held state (UnloadSegment id number) reply next = Does held state id (λ seen. unload_refusal state.slots seen number) reply next
-    (λ user. (reply ≡ Okay) × (next ≡ with_slots state (with_segment_idle state.slots (handle_at (handles_of user) number))))
+    (λ user. (reply ≡ Okay) × (next ≡ with_slots state (elim (handle_at (handles_of user) number) [
+      | None ↦ state.slots
+      | Some h ↦ with_block_changed idle_block state.slots h
+    ])))
 Steps Makes held state (Jsl id number at) reply next = Does held state id (λ seen. bytes_refusal state.slots seen number at 4) reply next
     (λ user. StepsJsl Makes held state id number at reply next)
 Steps Makes held state (ShutDown id keep) reply next = Does held state id (λ seen. shut_down_refusal (is_attached (outlines state.users) id) seen keep) reply next
@@ -442,12 +379,22 @@ Steps Makes held state (Poke id number at byte) reply next = Does held state id 
     (reply ≡ Okay) × (next ≡ with_both state id state.slots (Some (with_segment user number (record was { pokes = insert was.pokes at byte })))))
 Steps Makes held state (Bytes id number at count) reply next = Does held state id (λ seen. bytes_refusal state.slots seen number at count) reply next
     (λ user. (bytes : List ℕ) × StandsIn held state id number bytes × (reply ≡ Shown (take count (drop at bytes))) × (next ≡ state))
-Steps Makes held state (Where address) reply next = (place : AddressPlace) × IsLocated held state address place × (reply ≡ place_reply place) × (next ≡ state)
+Steps Makes held state (Where address) reply next = (place : AddressPlace) × IsLocated held state address place
+    × (reply ≡ elim place [ Nowhere ↦ Nothing | In id number offset ↦ Lies id number offset ]) × (next ≡ state)
 Steps Makes held state (Info id number) reply next = Does held state id (λ seen. info_refusal seen number) reply next
     (λ user. (sees : Sees held state id) × (s : Segment) × (segment_at sees.segments number ≡ Some s)
     × (reply ≡ SegmentIs (presence_at state.slots (handles_of user) number) s.fields.length s.fields.kind) × (next ≡ state))
 Steps Makes held state (Alloc size attributes address) reply next =
-    StepsAlloc Makes state (alloc_want size attributes address) (is_locked attributes) (level_in attributes) (is_movable attributes) reply next
+    StepsAlloc Makes state (record {
+      size = size;
+      align = if has_attribute 0x0004 attributes then 0x100 else 1;
+      no_cross = has_attribute 0x0010 attributes;
+      no_special = has_attribute 0x0008 attributes;
+      at = some_if (has_attribute 0x0002 attributes) address;
+      bank = some_if (has_attribute 0x0001 attributes) (address / 0x10000);
+      low = None;
+    }) (has_attribute 0x8000 attributes) (attributes / 0x100 % 4)
+    (not (has_attribute 0x4000 attributes) && not (has_attribute 0x0002 attributes) && not (has_attribute 0x0001 attributes)) reply next
 Steps Makes held state (Free h) reply next = Decides (free_refusal state.slots h) state reply next
     ((reply ≡ Okay) × (next ≡ with_slots state (after_release state.slots h)))
 Steps Makes held state (Lock h) reply next = StepsChange state h (λ block. record block { locked = true }) reply next

@@ -1,3 +1,4 @@
+pub mod Words
 pub mod PokeLaws
 pub mod StandsLaws
 pub mod PutLaws

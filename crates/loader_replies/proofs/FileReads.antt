@@ -16,7 +16,8 @@ use Rattle.loader_machine.specs.Refusals.{Refuse}
 use Rattle.loader_machine.specs.Transcript.{IsAnswered}
 use Rattle.loader_machine.specs.Replies.{reply_line}
 use Rattle.loader_agrees.specs.Agrees.{Loaded, Agrees, Meets, ReadsNeeded, MeetsReads}
-use Rattle.loader_replies.specs.Replied.{unread, MayRead, OnceAtMost, ReadsAtMost, IsUnanswered}
+use Rattle.loader_replies.specs.Replied.{unread, MayRead, ReadsAtMost, IsUnanswered}
+use Rattle.loader_replies.proofs.Words.{OnceAtMost}
 use Rattle.loader_replies.specs.Answered.{HasLine, IsAnswer}
 use Rattle.loader_replies.proofs.OneCommand.{OneReported}
 

@@ -1,3 +1,4 @@
+pub mod Words
 pub mod OneCommand
 pub mod Refusals
 pub mod FileReads

@@ -20,7 +20,8 @@ use Rattle.loader_agrees.specs.laws.Rows.{few_paths}
 use Rattle.sys_loader.specs.declared.answers.Started.{Started}
 use Rattle.sys_loader.specs.Calls.{AreRowsRead, IsRowsRefusal, IsCrowded, RowStops, IsLost, CantBegin, RowsLackMemory, IsLoadRefusal, IsFull, CantRead, LacksMemory, IsBad, CantStart, HasLoaded}
 use Rattle.sys_loader.specs.Replies.{load_reply}
-use Rattle.loader_replies.specs.Replied.{is_unread_fault, is_full_fault, most_reads, LoadMayRead}
+use Rattle.loader_replies.specs.Replied.{most_reads}
+use Rattle.loader_replies.proofs.Words.{is_unread_fault, is_full_fault, LoadMayRead}
 use Rattle.loader_replies.specs.Answered.{HasLine}
 use Rattle.loader_replies.proofs.FileReads.{read_line, good_text, bad_text}
 use Rattle.loader_replies.proofs.Reading.{IsFaulted, other_fault, unread_fault, lost_safe, begin_safe}

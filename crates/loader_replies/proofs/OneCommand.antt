@@ -15,7 +15,7 @@ use Rattle.iigs_meaning.specs.Memory.{Memory, IsPlaced}
 use Rattle.loader_machine.specs.declared.faults.LoaderFault.{LoaderFault}
 use Rattle.loader_machine.specs.declared.faults.LoaderFault.TheVariants as faults
 use Rattle.loader_machine.specs.State.{Machine}
-use Rattle.loader_machine.specs.Alloc.{alloc_want, is_locked, level_in, is_movable}
+use Rattle.loader_machine.specs.laws.Words.{alloc_want, is_locked, level_in, is_movable}
 use Rattle.loader_machine.specs.Commands as commands
 use Rattle.loader_machine.specs.Commands.{Command, Load, LoadSegment, Jsl, Restart, Reply}
 use Rattle.loader_machine.specs.Needs.{IsReadFor}

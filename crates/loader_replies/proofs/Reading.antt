@@ -39,7 +39,8 @@ use Rattle.sys_loader.specs.Following.{jsl_reply, IsJslRefusal, NoBytes, NoJsl, 
 use Rattle.sys_loader.specs.Restarting as restarting
 use Rattle.sys_loader.specs.Restarting.{restart_reads, IsAgainRefusal, IsRestartRefusal, DidRestart}
 use Rattle.loader_users.specs.Users.{kept_heads}
-use Rattle.loader_replies.specs.Replied.{is_unread_fault, is_full_fault, unread, MayRead, OnceAtMost, ReadsAtMost, IsUnanswered}
+use Rattle.loader_replies.specs.Replied.{unread, MayRead, ReadsAtMost, IsUnanswered}
+use Rattle.loader_replies.proofs.Words.{is_unread_fault, is_full_fault, OnceAtMost}
 use Rattle.loader_replies.specs.Answered.{HasLine}
 use Rattle.loader_replies.proofs.FileReads.{unread_once, unread_untold, meets_reads, read_line, good_text, bad_text}
 use Rattle.loader_replies.proofs.Refusals.{bytes_safe, segment_safe, restart_safe}

@@ -15,12 +15,14 @@ use Rattle.loader_machine.specs.declared.faults.LoaderFault.TheVariants as fault
 use Rattle.loader_machine.specs.Heads.{at_number, is_table}
 use Rattle.loader_machine.specs.State.{UserSeen, is_running, is_attached}
 use Rattle.loader_machine.specs.Presences.{presence_at, is_active}
-use Rattle.loader_machine.specs.Refusals.{Refuse, of_user, of_running, of_head, of_own, of_live, of_there, bytes_refusal, info_refusal, poke_refusal, unload_refusal, load_segment_refusal, restart_refusal, shut_down_refusal, purge_refusal, free_refusal, change_refusal, state_refusal}
+use Rattle.loader_machine.specs.Refusals.{Refuse, of_user, of_running, of_own, of_live, bytes_refusal, info_refusal, poke_refusal, unload_refusal, load_segment_refusal, restart_refusal, shut_down_refusal, purge_refusal, free_refusal, change_refusal, state_refusal}
+use Rattle.loader_machine.specs.laws.Words.{of_head, of_there}
 use Rattle.sys_loader.specs.declared.answers.Entered.{Entered}
 use Rattle.sys_loader.specs.Replies.{done_reply, where_reply, IsAllocRefusal}
 use Rattle.sys_loader.specs.Lives.{DidPoke, DidUnload, DidShutDown}
 use Rattle.loader_agrees.specs.Agrees.{Loaded, kept_outlines, seen_by}
-use Rattle.loader_replies.specs.Replied.{is_unread, is_unread_fault}
+use Rattle.loader_replies.specs.Replied.{is_unread}
+use Rattle.loader_replies.proofs.Words.{is_unread_fault}
 
 pub where_safe : (o : Option Entered) → is_unread (where_reply o) ≡ false
 where_safe None = refl

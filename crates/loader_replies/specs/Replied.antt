@@ -3,48 +3,35 @@ use Rattle.std.specs.Prelude.{◌≡◌, ◌⊎◌, ℕ, Bool, true, false, ◌+
 use Rattle.omf_io.specs.Counts.{one_more, saturating_sum, IfRevealedOr}
 use Rattle.omf_io.specs.Files.{FileMap, StoreSeen}
 use Rattle.load_meaning.specs.Pathnames.{most_paths}
-use Rattle.loader_machine.specs.declared.faults.LoaderFault.{LoaderFault}
 use Rattle.loader_machine.specs.declared.faults.LoaderFault.TheVariants.{TooManyUsers, CannotRead}
 use Rattle.loader_machine.specs.State.{Machine, empty_of}
 use Rattle.loader_machine.specs.Commands.{Command, Load, LoadSegment, Jsl, Restart, Reply, Refused}
+use Rattle.loader_machine.specs.Steps.{Either}
 use Rattle.loader_machine.specs.Transcript.{AreAnswered}
-
-abbrev pub is_unread_fault : LoaderFault → Bool
-is_unread_fault CannotRead = true
-is_unread_fault _ = false
 
 -- the reply is `cannot read`
 abbrev pub is_unread : Reply → Bool
-is_unread (Refused fault) = is_unread_fault fault
+is_unread (Refused CannotRead) = true
 is_unread _ = false
 
 -- how many replies are `cannot read`
 abbrev pub unread : List Reply → ℕ
 unread replies = count_by is_unread replies
 
-abbrev pub is_full_fault : LoaderFault → Bool
-is_full_fault TooManyUsers = true
-is_full_fault _ = false
-
 -- the reply is `refused TooManyUsers`
 abbrev pub is_full : Reply → Bool
-is_full (Refused fault) = is_full_fault fault
+is_full (Refused TooManyUsers) = true
 is_full _ = false
 
 -- a load reads its file and those of its rows at most
 abbrev pub most_reads : ℕ
 most_reads = 1 + most_paths
 
--- How many files a load may have read, by whether it is refused for the count of users: none where 255 were made, and the file alone
--- where its rows make too many; and else the file, and then up to 16 of rows.
-abbrev pub LoadMayRead : Bool → ℕ → Type 0
-LoadMayRead true reads = reads ≤ 1
-LoadMayRead false reads = (1 ≤ reads) × (reads ≤ most_reads)
-
--- How many files a command with this reply may have read: a load some; a segment that is made active, a JSL and a restart one at most;
--- no other command any.
+-- How many files a command with this reply may have read. A load that is refused for the count of users: none where 255 were made, and the file
+-- alone where its rows make too many; any other load the file, and then up to 16 of rows. A segment that is made active, a JSL and a restart one
+-- at most; no other command any.
 abbrev pub MayRead : Command → Reply → ℕ → Type 0
-MayRead (Load path) reply reads = LoadMayRead (is_full reply) reads
+MayRead (Load path) reply reads = Either (is_full reply) (reads ≤ 1) ((1 ≤ reads) × (reads ≤ most_reads))
 MayRead (LoadSegment user segment) reply reads = reads ≤ 1
 MayRead (Jsl user segment at) reply reads = reads ≤ 1
 MayRead (Restart user) reply reads = reads ≤ 1
@@ -70,14 +57,10 @@ pub record AreReplies (P : FileMap → Machine → Type 0) (commands : List Comm
       × (now.faults ≡ saturating_sum others before.faults) × (now.asked ≡ saturating_sum reads before.asked))
   pub store : now ≡ record before { faults = now.faults; asked = now.asked }
 
--- a count is as before or one more
-abbrev pub OnceAtMost : ℕ → ℕ → Type 0
-OnceAtMost before now = (now ≡ before) ⊎ (now ≡ one_more before)
-
 -- `most` files were read at most, one read of them failed at most, and nothing else was done to the store
 abbrev pub ReadsAtMost : ℕ → StoreSeen → StoreSeen → Type 0
 ReadsAtMost most before now = (reads : ℕ) × (reads ≤ most) × (now.asked ≡ saturating_sum reads before.asked)
-    × OnceAtMost before.faults now.faults × (now ≡ record before { faults = now.faults; asked = now.asked })
+    × ((now.faults ≡ before.faults) ⊎ (now.faults ≡ one_more before.faults)) × (now ≡ record before { faults = now.faults; asked = now.asked })
 
 -- a command has no reply, since it was out of memory: a load may have read its file and those of its rows, a segment that is made active, a
 -- JSL and a restart one file, and no other command any

@@ -6,7 +6,7 @@ ghost use Rattle.omf_io.specs.Files.{StoreSeen};
 ghost use Rattle.iigs_meaning.specs.Slots.{get};
 ghost use Rattle.loader_machine.specs.Commands as machine;
 ghost use Rattle.loader_machine.specs.Heads.{some_if};
-ghost use Rattle.loader_machine.specs.Alloc.{alloc_want, level_in, is_movable};
+ghost use Rattle.loader_machine.specs.laws.Words.{alloc_want, level_in, is_movable};
 ghost use Rattle.loader_replies.specs.Answered.{HasLine};
 
 use crate::replies::{done_line, moved_line, placed_line, refusal_line, room_line, state_line};
@@ -16,7 +16,7 @@ use std::alloc::Global;
 use sys_loader::Loader;
 
 /// What is asked of the place of a script's block.
-#[tactic(auto, unfolding(loader_machine::specs::Alloc::alloc_want))]
+#[tactic(auto)]
 fn alloc_want(size: u32, attr: u16, address: u32) -> Want
     ensures { result ≡ alloc_want size attr address }
 {

@@ -4,7 +4,8 @@ ghost use Rattle.std.specs.Prelude.{◌≡◌, ◌≢◌, ◌++◌, take, drop, 
 ghost use Rattle.std.specs.List.{flat_map};
 ghost use Rattle.omf_base.specs.Digits.{hexadecimal};
 ghost use Rattle.loader_machine.specs.Commands as machine;
-ghost use Rattle.loader_machine.specs.Replies.{entry_text, shown_text, handle_text, at_text, presence_text, lock_text, there_text, block_text, cause_text, bad_file_text, refused_text, reply_line, other_text};
+ghost use Rattle.loader_machine.specs.Replies.{handle_text, at_text, cause_text, refused_text, reply_line};
+ghost use Rattle.loader_machine.specs.laws.Words.{presence_text, entry_text, shown_text, lock_text, there_text, block_text, bad_file_text, other_text};
 ghost use Rattle.sys_loader.specs.Replies.{where_reply, done_reply};
 ghost use Rattle.loader_replies.specs.Answered.{IsLineOf};
 
@@ -27,7 +28,6 @@ pub fn okay_line(alloc: Global) -> Result<Line, LineFault>
 }
 
 /// Appends an address, or that there is none.
-#[tactic(auto, unfolding(loader_machine::specs::Replies::entry_text))]
 fn put_entry(line: &mut Line, entry: Option<u32>) -> Result<(), LineFault>
     ensures { OnOk result (line.new ≡ line.old ++ entry_text entry) }
 {
@@ -106,7 +106,6 @@ pub fn moved_line(alloc: Global, count: u32) -> Result<Line, LineFault>
 }
 
 /// Appends bytes, each after a space.
-#[tactic(auto, unfolding(loader_machine::specs::Replies::other_text))]
 fn put_others(line: &mut Line, bytes: &[u8]) -> Result<(), LineFault>
     ensures { OnOk result (line.new ≡ line.old ++ flat_map other_text bytes.now) }
 {
@@ -117,7 +116,6 @@ fn put_others(line: &mut Line, bytes: &[u8]) -> Result<(), LineFault>
 }
 
 /// Appends a byte after a space.
-#[tactic(auto, unfolding(loader_machine::specs::Replies::other_text))]
 fn put_other(line: &mut Line, byte: u8) -> Result<(), LineFault>
     ensures { OnOk result (line.new ≡ line.old ++ other_text byte) }
 {
@@ -126,7 +124,6 @@ fn put_other(line: &mut Line, byte: u8) -> Result<(), LineFault>
 }
 
 /// Appends bytes with one space between them.
-#[tactic(auto, unfolding(loader_machine::specs::Replies::shown_text))]
 fn put_shown(line: &mut Line, bytes: &[u8]) -> Result<(), LineFault>
     ensures { OnOk result (line.new ≡ line.old ++ shown_text bytes.now) }
 {
@@ -233,7 +230,6 @@ fn word_front(alloc: Global, word: &str) -> Result<Line, LineFault>
 }
 
 /// A line that begins with whether and where a segment is in memory.
-#[tactic(auto, unfolding(loader_machine::specs::Replies::presence_text))]
 fn presence_front(alloc: Global, presence: Presence) -> Result<Line, LineFault>
     ensures { IfOk result (λ text. text ≡ presence_text presence) }
 {
@@ -270,7 +266,6 @@ pub fn placed_line(alloc: Global, handle: Handle, address: u32) -> Result<Line, 
 }
 
 /// Appends whether a block is locked.
-#[tactic(auto, unfolding(loader_machine::specs::Replies::lock_text))]
 fn put_lock(line: &mut Line, locked: bool) -> Result<(), LineFault>
     ensures { OnOk result (line.new ≡ line.old ++ lock_text locked) }
 {
@@ -282,7 +277,6 @@ fn put_lock(line: &mut Line, locked: bool) -> Result<(), LineFault>
 }
 
 /// A line that reports a block that is there.
-#[tactic(auto, unfolding(loader_machine::specs::Replies::there_text))]
 fn block_front(alloc: Global, address: u32, state: BlockState) -> Result<Line, LineFault>
     ensures { IfOk result (λ text. text ≡ there_text address state) }
 {
@@ -298,7 +292,6 @@ fn block_front(alloc: Global, address: u32, state: BlockState) -> Result<Line, L
 }
 
 /// A line that reports a block.
-#[tactic(auto, unfolding(loader_machine::specs::Replies::block_text))]
 fn state_front(alloc: Global, state: BlockState) -> Result<Line, LineFault>
     ensures { IfOk result (λ text. text ≡ block_text state.at state) }
 {
@@ -351,7 +344,6 @@ fn cause_name(cause: LoadCause) -> &'static str
 }
 
 /// A line that reports a load file's fault.
-#[tactic(auto, unfolding(loader_machine::specs::Replies::bad_file_text))]
 fn bad_file_front(alloc: Global, fault: LoadFault) -> Result<Line, LineFault>
     ensures { IfOk result (λ text. text ≡ bad_file_text fault) }
 {

@@ -14,7 +14,7 @@ use Rattle.loader_agrees.specs.Agrees.{Loaded, Agrees}
 use Rattle.loader_replies.specs.declared.command.ReplyStop.{ReplyStop}
 use Rattle.loader_replies.specs.declared.command.ReplyStop.TheVariants as stop
 use Rattle.loader_replies.specs.Replied.{AreReplies, IsUnanswered}
-use Rattle.loader_script.specs.Run.{HandsOut, HasRunAll, StopsShort}
+use Rattle.loader_script.specs.Run.{HasRunAll, StopsShort}
 use Rattle.loader_replies.specs.Answered.{HasPrinted, IsAnswer, IsFirstLoader, HasAnswered}
 use Rattle.loader_script.specs.Running.{IsUnderWay, HasFinished}
 use Rattle.loader_replies.proofs.OneCommand.{OneReported, idle_reads, answered}
@@ -160,7 +160,7 @@ pub ended : (commands : List Command) (i : ℕ) (first : Command) (loader : Load
     → HasRunAll (Some loader) commands o
 ended commands i first loader o le is run = record {
   replies = run.replies;
-  answered = subst (λ (cs : List Command). AreReplies (HandsOut (Some loader)) cs run.replies o.store o.new_store) (take_all commands i le) run.answered;
+  answered = subst (λ (cs : List Command). AreReplies (λ files last. Agrees files loader last) cs run.replies o.store o.new_store) (take_all commands i le) run.answered;
   handed = (λ some. some_first commands first is, λ some. refl);
   printed = run.printed;
 }

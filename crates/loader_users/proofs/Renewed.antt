@@ -8,7 +8,8 @@ use Rattle.omf_io.specs.Counts.{IsFront}
 use Rattle.load_meaning.specs.declared.table.Target.{Target}
 use Rattle.load_meaning.specs.declared.table.Entry.{Entry}
 use Rattle.load_meaning.specs.Table.{entry_start, table_bytes, written_at}
-use Rattle.loader_machine.specs.Stands.{AddressSetting, entry_for}
+use Rattle.loader_machine.specs.Stands.{AddressSetting}
+use Rattle.loader_machine.specs.laws.Words.{entry_for}
 use Rattle.loader_agrees.specs.laws.EntryBytes.{file_is, segment_is, offset_is, code_set}
 use Rattle.loader_users.specs.Renewing.{Choice, is_chosen, code_for, renewed_at, relinked_entries}
 

@@ -14,7 +14,7 @@ use Rattle.iigs_meaning.specs.Memory.{Memory, bytes_at}
 use Rattle.loader_machine.specs.declared.seen.SegmentHead.{SegmentHead}
 use Rattle.loader_machine.specs.declared.seen.Presence.TheVariants.{Idle, Active}
 use Rattle.loader_machine.specs.Heads.{at_number, is_table}
-use Rattle.loader_machine.specs.Presences.{presence, lies_in, lies_at, there_at, handle_at}
+use Rattle.loader_machine.specs.Presences.{presence, there_at, handle_at, lies_in, lies_at}
 use Rattle.loader_users.specs.Bytes.{with_bytes}
 use Rattle.loader_users.specs.Renewing.{Choice, relinked_entries, IsRenewed, AreRoomy, AreRenewed}
 

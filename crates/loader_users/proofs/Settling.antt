@@ -25,7 +25,8 @@ use Rattle.loader_machine.specs.Heads.{head_of, is_static}
 use Rattle.loader_machine.specs.State.{HeldSegment, no_pokes}
 use Rattle.loader_machine.specs.Presences.{handle_at, presence, presence_at, there_at, active_at}
 use Rattle.loader_machine.specs.Stands as machine
-use Rattle.loader_machine.specs.Stands.{AddressSetting, setting, entry_for, entries_bytes, read_bytes, stands, no_far_segment, target_with}
+use Rattle.loader_machine.specs.Stands.{AddressSetting, setting, stands}
+use Rattle.loader_machine.specs.laws.Words.{entry_for, entries_bytes, read_bytes, no_far_segment, target_with}
 use Rattle.loader_machine.specs.laws.PokeLaws.{over_none}
 use Rattle.loader_machine.specs.Steps.{held_of_heads}
 use Rattle.loader_agrees.specs.laws.Begun.{decide}
@@ -78,7 +79,7 @@ module _ (segments : List Segment) (number : ℕ) (head : SegmentHead) (s : Segm
 
     table_is : (user : ℕ) (places : List (Option ℕ)) (out : List ℕ) → IsFront (table_bytes (map (own_entry user) (table_targets segments))) out → (at : AddressSetting) → IsSetting segments user places at
         → IsFront (stands at no_pokes s) out
-    unfolding stands read_bytes entries_bytes
+    unfolding stands
     table_is user places out front at set =
         let entries : map (entry_for at) (targets_of s) ≡ map (own_entry user) (targets_of s) = entries_same user at (targets_of s) set.id (set.targets number s there its_table) in
         let bytes : stands at no_pokes s ≡ table_bytes (map (own_entry user) (table_targets segments)) =

@@ -27,7 +27,8 @@ use Rattle.loader_machine.specs.Stands.{Far, setting_with, far_of}
 use Rattle.load_meaning.specs.LoadTable.{target_at, entry_count}
 use Rattle.load_meaning.specs.Table.{entry_start}
 use Rattle.loader_machine.specs.Steps.{with_block_changed, with_slots}
-use Rattle.loader_agrees.specs.Agrees.{LoadedUser, Loaded, outline, kept_outlines, UserAgrees, LeadsFar, EntriesLead, AreAttached, IsCall, Agrees, IsSegments, IsOf, Has, IsSound}
+use Rattle.loader_agrees.specs.Agrees.{LoadedUser, Loaded, outline, kept_outlines, UserAgrees, LeadsFar, AreAttached, IsCall, Agrees, IsSegments, IsOf, Has, IsSound}
+use Rattle.loader_agrees.specs.laws.Words.{EntriesLead}
 use Rattle.loader_agrees.specs.laws.Begun.{decide}
 use Rattle.loader_agrees.specs.laws.Frame.{Same, agrees_still}
 use Rattle.loader_agrees.specs.laws.Leading.{Leading, Its, Holder}

@@ -17,10 +17,12 @@ use Rattle.loader_machine.specs.declared.seen.Life.TheVariants.{Running}
 use Rattle.loader_machine.specs.Heads.{head_of, is_static}
 use Rattle.loader_machine.specs.State.{User, no_pokes, held_at}
 use Rattle.loader_machine.specs.Presences.{handle_at, presence_at, there_at, active_at, is_active}
-use Rattle.loader_machine.specs.Stands.{Far, AddressSetting, setting_with, place_in, entry_for, stands}
+use Rattle.loader_machine.specs.Stands.{Far, AddressSetting, setting_with, place_in, stands}
+use Rattle.loader_machine.specs.laws.Words.{entry_for}
 use Rattle.loader_machine.specs.laws.StandsLaws.{AreAlike, stands_alike}
 use Rattle.loader_machine.specs.Found.{HoldsLoad}
-use Rattle.loader_agrees.specs.Agrees.{LoadedUser, outline, outline_of, AreThere, UserAgrees}
+use Rattle.loader_agrees.specs.Agrees.{LoadedUser, outline, outline_of, UserAgrees}
+use Rattle.loader_agrees.specs.laws.Words.{AreThere}
 use Rattle.loader_agrees.specs.laws.EntryReads.{table_stands, targets_count, number_within}
 use Rattle.loader_users.specs.Renewing.{Choice, is_chosen, relinked_entries}
 use Rattle.loader_users.proofs.Leads.{Leads, Own, Other}

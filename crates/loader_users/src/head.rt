@@ -4,6 +4,7 @@ ghost use Rattle.std.specs.Prelude.{◌≡◌, ◌==◌};
 ghost use Rattle.omf_format.specs.Header as format;
 ghost use Rattle.iigs_meaning.specs.Fits.{IsWant};
 ghost use Rattle.loader_machine.specs.Heads as heads;
+ghost use Rattle.loader_machine.specs.laws.Words as words;
 ghost use Rattle.loader_machine.specs.Steps as steps;
 
 use iigs_meaning::Want;
@@ -75,7 +76,7 @@ pub fn is_code(head: &SegmentHead) -> bool
 }
 
 fn is_stack(head: &SegmentHead) -> bool
-    ensures { result ≡ heads.is_stack head.now }
+    ensures { result ≡ words.is_stack head.now }
 {
     kind(head).form() == STACK
 }
@@ -98,21 +99,21 @@ fn stays_in_bank(head: &SegmentHead) -> bool
 }
 
 fn fixes_bank(head: &SegmentHead) -> bool
-    ensures { result ≡ heads.fixes_bank head.now }
+    ensures { result ≡ words.fixes_bank head.now }
 {
     let kind = kind(head);
     head.org != 0 && (kind.is_absolute_bank() && !kind.is_bank_relative())
 }
 
 fn fixes_low(head: &SegmentHead) -> bool
-    ensures { result ≡ heads.fixes_low head.now }
+    ensures { result ≡ words.fixes_low head.now }
 {
     let kind = kind(head);
     head.org != 0 && (kind.is_bank_relative() && !kind.is_absolute_bank())
 }
 
 fn fixes_address(head: &SegmentHead) -> bool
-    ensures { result ≡ heads.fixes_address head.now }
+    ensures { result ≡ words.fixes_address head.now }
 {
     head.org != 0 && (!fixes_bank(head) && !fixes_low(head))
 }
@@ -123,9 +124,8 @@ fn some_if(asked: bool, n: u32) -> Option<u32>
     if asked { Some(n) } else { None }
 }
 
-#[tactic(auto, unfolding(loader_machine::specs::Heads::stack_want))]
 fn stack_want(head: &SegmentHead) -> Want
-    ensures is { result ≡ heads.stack_want head.now }
+    ensures is { result ≡ words.stack_want head.now }
     ensures want { IsWant result }
 {
     Want {
@@ -139,9 +139,8 @@ fn stack_want(head: &SegmentHead) -> Want
     }
 }
 
-#[tactic(auto, unfolding(loader_machine::specs::Heads::plain_want))]
 fn plain_want(head: &SegmentHead) -> Want
-    ensures is { result ≡ heads.plain_want head.now }
+    ensures is { result ≡ words.plain_want head.now }
     ensures want { IsWant result }
 {
     Want {

@@ -7,6 +7,7 @@ ghost use Rattle.omf_cells.specs.Load.{IsOutside, HasLength};
 ghost use Rattle.loader_machine.specs.Heads.{at_number};
 ghost use Rattle.loader_machine.specs.State.{user_of};
 ghost use Rattle.loader_machine.specs.Steps as steps;
+ghost use Rattle.loader_machine.specs.laws.Words as words;
 ghost use Rattle.loader_users.specs.View.{kept};
 ghost use Rattle.loader_users.specs.Users.{new_heads, kept_heads, lost_entry};
 
@@ -54,7 +55,7 @@ fn is_inside(user: &User, target: &Target) -> bool
 
 /// Whether an entry leads into the file itself, or to a segment of one of these users.
 fn is_reached(joined: &Vec<User>, target: &Target) -> bool
-    ensures { result ≡ steps.is_reached (new_heads joined.now.items) target.now }
+    ensures { result ≡ words.is_reached (new_heads joined.now.items) target.now }
 {
     if target.file <= 1 {
         return true;
@@ -68,7 +69,7 @@ fn is_reached(joined: &Vec<User>, target: &Target) -> bool
 /// Whether an entry leads into the file itself, or to a segment of one of the users with these IDs.
 fn is_reached_in(users: &Vec<Option<User>>, attached: &Vec<u16>, target: &Target) -> bool
     requires { (place id : ℕ) → slice_get attached.now.items place ≡ Some id → IsSome (user_of (map (option_map kept) users.now.items) id) }
-    ensures { result ≡ steps.is_reached (kept_heads (map (option_map kept) users.now.items) attached.now.items) target.now }
+    ensures { result ≡ words.is_reached (kept_heads (map (option_map kept) users.now.items) attached.now.items) target.now }
 {
     if target.file <= 1 {
         return true;

@@ -35,8 +35,9 @@ use Rattle.loader_machine.specs.Heads.{head_of, at_number}
 use Rattle.loader_machine.specs.State.{User, Machine, max_users}
 use Rattle.loader_machine.specs.Commands.{Load, Started, Refused, Reply}
 use Rattle.loader_machine.specs.Refusals.{Refuse, load_refusal, rows_refusal}
-use Rattle.loader_machine.specs.Found.{HoldsFile, HoldsLoad, FileFound, Unread, Good, IsFound, Joined, Stops, Joins, joined_after, AreJoined}
-use Rattle.loader_machine.specs.Steps.{Put, NoSlots, Lacks, PutIn, Lands, Begins, Decides, LoadsJoined, LoadsFound, is_reached, lost_from, lost_in, lost_refusal}
+use Rattle.loader_machine.specs.Found.{HoldsFile, HoldsLoad, FileFound, Unread, Good, IsFound, Joined, Stops, Joins, AreJoined, joined_after}
+use Rattle.loader_machine.specs.laws.Words.{Lands, LoadsJoined, LoadsFound, is_reached}
+use Rattle.loader_machine.specs.Steps.{Put, NoSlots, Lacks, PutIn, Begins, Decides, lost_from, lost_in, lost_refusal}
 use Rattle.loader_machine.specs.laws.OnceLaws.{found_once, joined_once}
 use Rattle.loader_agrees.specs.Agrees.{Loaded, Meets}
 use Rattle.sys_loader.specs.declared.answers.Started as answers

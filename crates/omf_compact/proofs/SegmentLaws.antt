@@ -11,7 +11,8 @@ use Rattle.omf_format.specs.Record.{spelling}
 use Rattle.omf_format.specs.File.{Segment, segment_at}
 use Rattle.load_meaning.specs.Exports.{exports_of, exports_from}
 use Rattle.object_meaning.specs.laws.RunLaws.{text}
-use Rattle.omf_compact.specs.Canonical.{plain_of, plain, canon_records, canon_fields, canon_segment, canon_from, canon}
+use Rattle.omf_compact.specs.Canonical.{plain_of, plain, canon_fields, canon_segment, canon_from, canon}
+use Rattle.omf_compact.specs.laws.Words.{canon_records}
 use Rattle.omf_compact.specs.laws.Writing.{first_records, first_text, entries_text, AtExports}
 use Rattle.omf_cells.specs.Load.{HasFields}
 use Rattle.omf_header.specs.Written.{with_reserved_zeros}
@@ -35,7 +36,7 @@ at_own segments own number s same at = subst (λ (n : ℕ). segment_at segments 
 
 -- its body without END
 pub body_of : (number : ℕ) (s : Segment) → text (canon_records number (plain_of s)) ≡ (first_text number (plain_of s) ++ entries_text s) ++ 0 ∷ []
-unfolding canon_records first_text first_records entries_text plain_of spelling
+unfolding first_text first_records entries_text plain_of spelling
 body_of number s = ap (λ (l : List ℕ). l ++ 0 ∷ []) (flat_map-append (spelling written_layout) (first_records number (plain_of s)) (plain_of s).entries)
 
 -- its header's fields

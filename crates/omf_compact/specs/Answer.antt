@@ -1,7 +1,6 @@
 -- The answer for a file: the canonical file, or why there is none.
 use Rattle.std.specs.Prelude.{◌≡◌, ◌≤◌, ◌<◌, ℕ, List, length, Some, None}
 use Rattle.omf_io.specs.Files.{max_file}
-use Rattle.load_meaning.specs.declared.load.LoadCause.{LoadCause}
 use Rattle.load_meaning.specs.declared.load.LoadCause.TheVariants as load
 use Rattle.omf_format.specs.File.{Segment}
 use Rattle.load_meaning.specs.Loadable.{IsLoadable, IsFirstLoadFault}
@@ -31,23 +30,19 @@ pub record IsTooLong (file : List ℕ) : Type 0 where
   pub whole : broken_in 1 (plain segments) ≡ None
   pub long : max_file < length (canon (plain segments))
 
--- the file isn't a load file, and this is its first fault
-abbrev pub IsLoadFault : LoadCause → CompactFault → List ℕ → Type 0
-IsLoadFault cause fault file = IsFirstLoadFault file (record { cause = cause; segment = fault.segment; at = fault.at })
-
--- why a file is refused for a cause; the faults of lack of memory and of a file that is too long have no place
+-- why a file is refused for a cause: it isn't a load file, and this is its first fault, or one of three others; the faults of lack of memory and of a file that is too long have no place
 abbrev pub IsRefusedBy : CompactCause → CompactFault → List ℕ → Type 0
-IsRefusedBy NotLoadFile fault file = IsLoadFault load.NotLoadFile fault file
-IsRefusedBy Truncated fault file = IsLoadFault load.Truncated fault file
-IsRefusedBy BadHeader fault file = IsLoadFault load.BadHeader fault file
-IsRefusedBy Unsupported fault file = IsLoadFault load.Unsupported fault file
-IsRefusedBy BadRecord fault file = IsLoadFault load.BadRecord fault file
-IsRefusedBy Sequence fault file = IsLoadFault load.Sequence fault file
-IsRefusedBy DataTooLong fault file = IsLoadFault load.DataTooLong fault file
-IsRefusedBy PatchOutside fault file = IsLoadFault load.PatchOutside fault file
-IsRefusedBy NoSuchTarget fault file = IsLoadFault load.NoSuchTarget fault file
-IsRefusedBy DynamicTarget fault file = IsLoadFault load.DynamicTarget fault file
-IsRefusedBy BadTable fault file = IsLoadFault load.BadTable fault file
+IsRefusedBy NotLoadFile fault file = IsFirstLoadFault file (record { cause = load.NotLoadFile; segment = fault.segment; at = fault.at })
+IsRefusedBy Truncated fault file = IsFirstLoadFault file (record { cause = load.Truncated; segment = fault.segment; at = fault.at })
+IsRefusedBy BadHeader fault file = IsFirstLoadFault file (record { cause = load.BadHeader; segment = fault.segment; at = fault.at })
+IsRefusedBy Unsupported fault file = IsFirstLoadFault file (record { cause = load.Unsupported; segment = fault.segment; at = fault.at })
+IsRefusedBy BadRecord fault file = IsFirstLoadFault file (record { cause = load.BadRecord; segment = fault.segment; at = fault.at })
+IsRefusedBy Sequence fault file = IsFirstLoadFault file (record { cause = load.Sequence; segment = fault.segment; at = fault.at })
+IsRefusedBy DataTooLong fault file = IsFirstLoadFault file (record { cause = load.DataTooLong; segment = fault.segment; at = fault.at })
+IsRefusedBy PatchOutside fault file = IsFirstLoadFault file (record { cause = load.PatchOutside; segment = fault.segment; at = fault.at })
+IsRefusedBy NoSuchTarget fault file = IsFirstLoadFault file (record { cause = load.NoSuchTarget; segment = fault.segment; at = fault.at })
+IsRefusedBy DynamicTarget fault file = IsFirstLoadFault file (record { cause = load.DynamicTarget; segment = fault.segment; at = fault.at })
+IsRefusedBy BadTable fault file = IsFirstLoadFault file (record { cause = load.BadTable; segment = fault.segment; at = fault.at })
 IsRefusedBy BrokenPart fault file = HasBroken file fault.segment fault.at
 IsRefusedBy TooLong fault file = IsTooLong file × (fault.segment ≡ 0) × (fault.at ≡ 0)
 IsRefusedBy Memory fault file = (fault.segment ≡ 0) × (fault.at ≡ 0)

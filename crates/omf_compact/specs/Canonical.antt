@@ -13,6 +13,7 @@ use Rattle.omf_compact.specs.Stretches.{first_broken, stretches, bytes_in}
 
 -- ---- what is held
 
+-- an ENTRY record
 abbrev pub is_entry : Record → Bool
 is_entry (Entry segment offset name) = true
 is_entry _ = false
@@ -30,9 +31,6 @@ pub record Plain : Type 0 where
   pub cells' : List Cell
   pub entries : List Record
 
-abbrev pub entries_in : Segment → List Record
-entries_in s = filter is_entry (map (λ found. found.1) s.records)
-
 unfoldable pub plain_of : Segment → Plain
 plain_of s = record {
   load_name = s.fields.load_name;
@@ -44,7 +42,7 @@ plain_of s = record {
   align = s.fields.align;
   entry = s.fields.entry;
   cells' = cells s;
-  entries = entries_in s;
+  entries = filter is_entry (map (λ found. found.1) s.records);
 }
 
 abbrev pub plain : List Segment → List Plain
@@ -60,11 +58,6 @@ broken_in number (p ∷ plains) = option_or (option_map (λ at. (number, at)) (f
 -- a pathname segment has all its bytes in one LCONST
 abbrev pub is_pathname : Plain → Bool
 is_pathname p = form_of p.kind == 0x04
-
--- the data and the patches of the cells, and then the ENTRY records
-unfoldable pub canon_records : ℕ → Plain → List Record
-canon_records number p =
-    (if is_pathname p then LongConst (bytes_in p.cells') ∷ [] else body_records number (bytes_in p.cells') (stretches p.cells')) ++ p.entries
 
 -- RESSPC counts the zeros that the data leave out
 unfoldable pub canon_fields : ℕ → Plain → HeaderFields
@@ -86,10 +79,11 @@ canon_fields number p = record {
   name = p.name;
 }
 
--- the header, and the records up to END after it
+-- the header, and after it the data and the patches of the cells, the ENTRY records, and END
 unfoldable pub canon_segment : ℕ → Plain → List ℕ
 canon_segment number p =
-    let body = flat_map (spelling written_layout) (canon_records number p) ++ spelling written_layout End in
+    let content = if is_pathname p then LongConst (bytes_in p.cells') ∷ [] else body_records number (bytes_in p.cells') (stretches p.cells') in
+    let body = flat_map (spelling written_layout) (content ++ p.entries) ++ spelling written_layout End in
     header_bytes (canon_fields number p) (length body) ++ body
 
 -- the segments one after another, where the first has this number

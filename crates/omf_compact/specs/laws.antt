@@ -1,3 +1,4 @@
+pub mod Words
 pub mod Causes
 pub mod Walk
 pub mod Writing

@@ -1,16 +1,15 @@
 -- Commands with another number of words than they take.
 use Rattle.std.proofs.Common.{◌≡◌, ◌≢◌, ℕ, List, [], ◌∷◌, length, Err, refl}
 use Rattle.loader_machine.specs.declared.script.ScriptCause.TheVariants.{WrongCount}
-use Rattle.loader_machine.specs.Script.{load_of, jsl_of, shut_down_of, poke_of, bytes_of, alloc_of, one_number, two_numbers}
+use Rattle.loader_machine.specs.Script.{one_number, two_numbers}
+use Rattle.loader_machine.specs.laws.Words.{load_of, jsl_of, shut_down_of, poke_of, bytes_of, alloc_of}
 
 pub load_of_others : (words : List (List ℕ)) → length words ≢ 1 → load_of words ≡ Err WrongCount
-unfolding load_of
 load_of_others [] other = refl
 load_of_others (path ∷ []) other = absurd (other refl)
 load_of_others (path ∷ more ∷ words) other = refl
 
 pub bytes_of_others : (words : List (List ℕ)) → length words ≢ 4 → bytes_of words ≡ Err WrongCount
-unfolding bytes_of
 bytes_of_others [] other = refl
 bytes_of_others (user ∷ []) other = refl
 bytes_of_others (user ∷ segment ∷ []) other = refl
@@ -19,7 +18,6 @@ bytes_of_others (user ∷ segment ∷ at ∷ size ∷ []) other = absurd (other 
 bytes_of_others (user ∷ segment ∷ at ∷ size ∷ more ∷ words) other = refl
 
 pub alloc_of_others : (words : List (List ℕ)) → length words ≢ 3 → alloc_of words ≡ Err WrongCount
-unfolding alloc_of
 alloc_of_others [] other = refl
 alloc_of_others (size ∷ []) other = refl
 alloc_of_others (size ∷ attr ∷ []) other = refl
@@ -40,7 +38,6 @@ two_numbers_others most bound (word ∷ second ∷ []) other = absurd (other ref
 two_numbers_others most bound (word ∷ second ∷ more ∷ words) other = refl
 
 pub poke_of_others : (words : List (List ℕ)) → length words ≢ 4 → poke_of words ≡ Err WrongCount
-unfolding poke_of
 poke_of_others [] other = refl
 poke_of_others (user ∷ []) other = refl
 poke_of_others (user ∷ segment ∷ []) other = refl
@@ -49,14 +46,12 @@ poke_of_others (user ∷ segment ∷ at ∷ byte ∷ []) other = absurd (other r
 poke_of_others (user ∷ segment ∷ at ∷ byte ∷ more ∷ words) other = refl
 
 pub shut_down_of_others : (words : List (List ℕ)) → length words ≢ 2 → shut_down_of words ≡ Err WrongCount
-unfolding shut_down_of
 shut_down_of_others [] other = refl
 shut_down_of_others (user ∷ []) other = refl
 shut_down_of_others (user ∷ manner ∷ []) other = absurd (other refl)
 shut_down_of_others (user ∷ manner ∷ more ∷ words) other = refl
 
 pub jsl_of_others : (words : List (List ℕ)) → length words ≢ 3 → jsl_of words ≡ Err WrongCount
-unfolding jsl_of
 jsl_of_others [] other = refl
 jsl_of_others (user ∷ []) other = refl
 jsl_of_others (user ∷ segment ∷ []) other = refl

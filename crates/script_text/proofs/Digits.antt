@@ -8,7 +8,7 @@ use Rattle.std.proofs.lemmas.Bool.{and_from}
 use Rattle.std.proofs.lemmas.Nat.{pow-add}
 use Rattle.std.proofs.lemmas.Int.Digits.{digits_value_more}
 use Rattle.std.proofs.lemmas.List.Folds.{list_all_more}
-use Rattle.loader_machine.specs.Script.{is_hex_digit}
+use Rattle.loader_machine.specs.laws.Words.{is_hex_digit}
 
 -- the first digits of a word were read, and they write this number
 pub record HasRead (word : List ℕ) (i value : ℕ) : Type 0 where

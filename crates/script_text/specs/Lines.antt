@@ -3,7 +3,7 @@ use Rattle.std.specs.Prelude.{◌≡◌, ℕ, ◌<◌, true, false, Bool, List, 
 use Rattle.loader_machine.specs.declared.script.ScriptCause.{ScriptCause}
 use Rattle.loader_machine.specs.declared.script.ScriptCause.TheVariants.{TooManyLines, BadWord, UnknownCommand, BanksFirst, WrongCount, BadNumber, BankTwice, Memory}
 use Rattle.loader_machine.specs.Commands.{Command}
-use Rattle.loader_machine.specs.Script.{most_lines, is_skipped, line_command, is_start, IsBad}
+use Rattle.loader_machine.specs.Script.{most_lines, is_skipped, line_command, IsBad, is_start}
 
 -- the line, after `before` others, is skipped, or gives the command at the end
 pub data HasTaken (before : ℕ) (line : List ℕ) (old new : List Command) : Type 0 where

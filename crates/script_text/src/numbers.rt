@@ -3,7 +3,8 @@
 ghost use Rattle.std.specs.Prelude.{◌≡◌, ◌<◌, ◌≤◌, true, false, length, IfSome, MatchOption};
 ghost use Rattle.std.specs.List.{list_all};
 ghost use Rattle.std.specs.Char.{digit_value};
-ghost use Rattle.loader_machine.specs.Script.{is_hex_digit, number_of, is_number};
+ghost use Rattle.loader_machine.specs.Script.{number_of, is_number};
+ghost use Rattle.loader_machine.specs.laws.Words.{is_hex_digit};
 
 /// The value of a digit.
 fn hex_digit(byte: u8) -> Option<u32>

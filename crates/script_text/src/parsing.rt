@@ -4,7 +4,8 @@ ghost use Rattle.std.specs.Prelude.{◌≡◌, ◌≢◌, ◌==◌, ◌&&◌, �
 ghost use Rattle.std.specs.List.{list_all, list_any};
 ghost use Rattle.loader_machine.specs.Commands as machine;
 ghost use Rattle.loader_machine.specs.Alloc.{is_attributes};
-ghost use Rattle.loader_machine.specs.Script.{words_of, is_word, stands_twice, banks_of, load_of, are_jsl_numbers, jsl_of, is_manner, shut_down_of, are_poke_numbers, poke_of, bytes_of, are_bytes_numbers, are_alloc_numbers, alloc_of, room_of, compact_of, one_number, two_numbers, given_by, handle_of, words_command, command_named, is_in_turn, is_number, number_of, command_of, line_command};
+ghost use Rattle.loader_machine.specs.Script.{words_of, is_word, stands_twice, one_number, two_numbers, given_by, handle_of, words_command, command_named, is_number, number_of, line_command};
+ghost use Rattle.loader_machine.specs.laws.Words.{command_of, banks_of, load_of, are_jsl_numbers, jsl_of, is_manner, shut_down_of, are_poke_numbers, poke_of, bytes_of, are_bytes_numbers, are_alloc_numbers, alloc_of, room_of, compact_of, is_in_turn};
 ghost use Rattle.script_text.specs.Words.{bank_numbers, IsHandleIn};
 ghost use Rattle.script_text.specs.View.{command, IsRead};
 
@@ -53,7 +54,6 @@ fn bank_numbers(alloc: Global, words: &mut Words) -> Result<Vec<u8>, ScriptCause
 }
 
 /// `banks B B ..`
-#[tactic(auto, unfolding(loader_machine::specs::Script::banks_of))]
 fn banks(alloc: Global, words: &mut Words) -> Result<Command, ScriptCause>
     ensures { IsRead command result (banks_of words.old) }
 {
@@ -97,7 +97,7 @@ fn path_of(alloc: Global, word: &[u8]) -> Result<Name, ScriptCause>
 }
 
 /// `load PATH`
-#[tactic(auto, unfolding(loader_machine::specs::Script::load_of, loader_machine::specs::Script::is_word), using(crate::proofs::Counts::load_of_others))]
+#[tactic(auto, unfolding(loader_machine::specs::Script::is_word), using(crate::proofs::Counts::load_of_others))]
 fn load(alloc: Global, words: &mut Words) -> Result<Command, ScriptCause>
     requires { list_all is_word words.old ≡ true }
     ensures { IsRead command result (load_of words.old) }
@@ -142,7 +142,7 @@ fn bytes_command(user: &[u8], segment: &[u8], at: &[u8], size: &[u8]) -> Option<
 }
 
 /// `bytes U S OFF LEN`
-#[tactic(auto, unfolding(loader_machine::specs::Script::bytes_of), using(crate::proofs::Counts::bytes_of_others))]
+#[tactic(auto, using(crate::proofs::Counts::bytes_of_others))]
 fn bytes(words: &mut Words) -> Result<Command, ScriptCause>
     ensures { IsRead command result (bytes_of words.old) }
 {
@@ -174,7 +174,7 @@ fn poke_command(user: &[u8], segment: &[u8], at: &[u8], byte: &[u8]) -> Option<C
 }
 
 /// `poke U S OFF BYTE`
-#[tactic(auto, unfolding(loader_machine::specs::Script::poke_of), using(crate::proofs::Counts::poke_of_others))]
+#[tactic(auto, using(crate::proofs::Counts::poke_of_others))]
 fn poke(words: &mut Words) -> Result<Command, ScriptCause>
     ensures { IsRead command result (poke_of words.old) }
 {
@@ -290,7 +290,7 @@ fn alloc_command(size: &[u8], attr: &[u8], address: &[u8]) -> Option<Command>
 }
 
 /// `alloc SIZE ATTR ADDR`
-#[tactic(auto, unfolding(loader_machine::specs::Script::alloc_of), using(crate::proofs::Counts::alloc_of_others))]
+#[tactic(auto, using(crate::proofs::Counts::alloc_of_others))]
 fn alloc_block(words: &mut Words) -> Result<Command, ScriptCause>
     ensures { IsRead command result (alloc_of words.old) }
 {
@@ -346,7 +346,7 @@ fn jsl_command(user: &[u8], segment: &[u8], at: &[u8]) -> Option<Command>
 }
 
 /// `jsl U S OFF`
-#[tactic(auto, unfolding(loader_machine::specs::Script::jsl_of), using(crate::proofs::Counts::jsl_of_others))]
+#[tactic(auto, using(crate::proofs::Counts::jsl_of_others))]
 fn jsl(words: &mut Words) -> Result<Command, ScriptCause>
     ensures { IsRead command result (jsl_of words.old) }
 {
@@ -411,7 +411,7 @@ fn shut_down_command(user: &[u8], word: &[u8]) -> Option<Command>
 }
 
 /// `shutdown U keep` and `shutdown U drop`
-#[tactic(auto, unfolding(loader_machine::specs::Script::shut_down_of), using(crate::proofs::Counts::shut_down_of_others))]
+#[tactic(auto, using(crate::proofs::Counts::shut_down_of_others))]
 fn shut_down(words: &mut Words) -> Result<Command, ScriptCause>
     ensures { IsRead command result (shut_down_of words.old) }
 {
@@ -487,7 +487,6 @@ fn state(words: &mut Words) -> Result<Command, ScriptCause>
 }
 
 /// `room`
-#[tactic(auto, unfolding(loader_machine::specs::Script::room_of))]
 fn room(words: &mut Words) -> Result<Command, ScriptCause>
     ensures { IsRead command result (room_of words.old) }
 {
@@ -498,7 +497,6 @@ fn room(words: &mut Words) -> Result<Command, ScriptCause>
 }
 
 /// `compact`
-#[tactic(auto, unfolding(loader_machine::specs::Script::compact_of))]
 fn compact(words: &mut Words) -> Result<Command, ScriptCause>
     ensures { IsRead command result (compact_of words.old) }
 {
@@ -628,7 +626,6 @@ fn is_in_turn(name: CommandName, is_first: bool) -> bool
 }
 
 /// The command that the words of a line give, where it is the first one of a script or isn't.
-#[tactic(auto, unfolding(loader_machine::specs::Script::command_of))]
 fn command_of(alloc: Global, line: &[u8], is_first: bool) -> Result<Command, ScriptCause>
     requires { list_all is_word (words_of line.now) ≡ true }
     ensures { IsRead command result (command_of is_first (words_of line.now)) }
@@ -647,7 +644,7 @@ fn command_of(alloc: Global, line: &[u8], is_first: bool) -> Result<Command, Scr
 }
 
 /// The command of a line that isn't skipped.
-#[tactic(auto, unfolding(loader_machine::specs::Script::line_command, loader_machine::specs::Script::is_well_formed))]
+#[tactic(auto, unfolding(loader_machine::specs::Script::line_command))]
 pub(crate) fn line_command(
     alloc: Global,
     line: &[u8],

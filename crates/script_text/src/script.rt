@@ -1,7 +1,7 @@
 //! Scripts read as a whole.
 
 ghost use Rattle.std.specs.Prelude.{◌≡◌, ◌≤◌, ◌+◌, map, length, slice_get, Some, IfOk, IfErr, OnOk, MatchOption};
-ghost use Rattle.loader_machine.specs.Script.{is_skipped, is_start, most_lines, IsScript};
+ghost use Rattle.loader_machine.specs.Script.{is_skipped, most_lines, IsScript, is_start};
 ghost use Rattle.script_text.specs.View.{command, IsRefused, line_for};
 ghost use Rattle.script_text.specs.Lines.{HasTaken, IsBadFor};
 

@@ -3,7 +3,8 @@
 ghost use Rattle.std.specs.Prelude.{◌≡◌, ◌==◌, ◌&&◌, nat_le, ◌∷◌, [], length, position, count_by, MatchOption};
 ghost use Rattle.std.specs.Option.{option_map_or};
 ghost use Rattle.std.specs.List.{list_all};
-ghost use Rattle.loader_machine.specs.Script.{words_of, is_word, is_well_formed};
+ghost use Rattle.loader_machine.specs.Script.{words_of, is_word};
+ghost use Rattle.loader_machine.specs.laws.Words.{is_well_formed};
 
 use std::marker::Model;
 
@@ -108,7 +109,6 @@ fn is_word(word: &[u8]) -> bool
 }
 
 /// Whether the line is words with one space between them, and not too long.
-#[tactic(auto, unfolding(loader_machine::specs::Script::is_well_formed))]
 pub(crate) fn is_well_formed(line: &[u8]) -> bool
     ensures { result ≡ is_well_formed line.now }
 {

@@ -23,12 +23,13 @@ use Rattle.loader_machine.specs.declared.seen.Presence.{Presence}
 use Rattle.loader_machine.specs.declared.seen.Presence.TheVariants.{Absent, Purged, Idle, Active}
 use Rattle.loader_machine.specs.Heads.{head_of, at_number, is_table, want_of}
 use Rattle.loader_machine.specs.State.{Machine, UserSeen, fresh, first_id, handles_of, is_attached, led_by}
-use Rattle.loader_machine.specs.Presences.{handle_at, presence, presence_at, lies_in, lies_at, active_at}
+use Rattle.loader_machine.specs.Presences.{handle_at, presence, presence_at, active_at, lies_in, lies_at}
+use Rattle.loader_machine.specs.laws.Words.{Activates, Answers}
 use Rattle.loader_machine.specs.Found.{HoldsLoad}
 use Rattle.loader_machine.specs.laws.OnceLaws.{one_load}
 use Rattle.loader_machine.specs.Commands.{Reply, LoadSegment, MadeActive, Refused}
 use Rattle.loader_machine.specs.Refusals.{Refuse, load_segment_refusal}
-use Rattle.loader_machine.specs.Steps.{Sees, seen_of, Activation, OutOfSlots, OutOfRoom, Made, Activates, Answers, MakesActive, active_block, with_block_changed, with_slots, with_both, with_segment}
+use Rattle.loader_machine.specs.Steps.{Sees, seen_of, Activation, OutOfSlots, OutOfRoom, Made, MakesActive, active_block, with_block_changed, with_slots, with_both, with_segment}
 use Rattle.loader_machine.specs.Needs.{Needs, is_read, path_if}
 use Rattle.loader_agrees.specs.Agrees.{Loaded, Outline, kept_outlines, seen_in, Agrees, Has, IsSound, Meets}
 use Rattle.loader_agrees.specs.laws.Reads.{headed}

@@ -22,13 +22,15 @@ use Rattle.loader_machine.specs.declared.seen.Presence.{Presence}
 use Rattle.loader_machine.specs.declared.seen.Presence.TheVariants.{Absent, Purged, Idle, Active}
 use Rattle.loader_machine.specs.Heads.{head_of, at_number, is_static, is_table, wants_of}
 use Rattle.loader_machine.specs.State.{User, Machine, Outline, outline_of, first_id, user_of, with_user, with_all, attached_at, handles_in}
-use Rattle.loader_machine.specs.State as state_of
+use Rattle.loader_machine.specs.laws.Words as words
 use Rattle.loader_machine.specs.Presences.{handle_at, presence, presence_at, active_at, is_active}
 use Rattle.loader_machine.specs.Stands.{setting, far_of}
 use Rattle.loader_machine.specs.Found.{HoldsLoad}
 use Rattle.loader_machine.specs.Commands.{Started}
-use Rattle.loader_machine.specs.Steps.{PutIn, Begins, started_user, again_users, lost_refusal}
-use Rattle.loader_agrees.specs.Agrees.{LoadedUser, Loaded, outline, kept_outlines, far_in, IsJoined, AreAttached, UserAgrees, Agrees, IsCall, IsSound}
+use Rattle.loader_machine.specs.Steps.{PutIn, Begins, lost_refusal}
+use Rattle.loader_machine.specs.laws.Words.{started_user, again_users}
+use Rattle.loader_agrees.specs.Agrees.{LoadedUser, Loaded, outline, kept_outlines, IsJoined, AreAttached, UserAgrees, Agrees, IsCall, IsSound}
+use Rattle.loader_agrees.specs.laws.Words.{far_in}
 use Rattle.loader_agrees.specs.Acts.{IsAdded, started_kept}
 use Rattle.loader_agrees.specs.laws.Begun.{user_agrees, others_agree, begun_keeps}
 use Rattle.loader_agrees.specs.laws.BegunSound.{sound_placed}
@@ -390,7 +392,7 @@ module _ (old new : Loaded) (id : ℕ) (kept : LoadedUser) (segments : List Segm
     dropped_agrees = gone_agrees old dropped (id ∷ []) sound released_one refl high row_out held state agrees
 
     abbrev middle : Machine
-    middle = record { banks = state.banks; slots = without_user state.slots id; users = with_all state_of.runs_again (with_user state.users id None) rows }
+    middle = record { banks = state.banks; slots = without_user state.slots id; users = with_all words.runs_again (with_user state.users id None) rows }
 
     without_agrees : Agrees held without middle
     without_agrees = rerun_agrees dropped.memory dropped.users without.users rows refl dropped_sound together quiet held (record { banks = state.banks; slots = without_user state.slots id; users = with_user state.users id None }) dropped_agrees
@@ -402,7 +404,7 @@ module _ (old new : Loaded) (id : ℕ) (kept : LoadedUser) (segments : List Segm
     next = record {
       banks = state.banks;
       slots = new.memory.slots;
-      users = with_all state_of.runs_again (with_user state.users id (Some (record (started_user kept.path (map head_of segments) did.placed.handles) { attached = kept.attached }))) kept.attached;
+      users = with_all words.runs_again (with_user state.users id (Some (record (started_user kept.path (map head_of segments) did.placed.handles) { attached = kept.attached }))) kept.attached;
     }
 
     lists : length state.users ≡ length old.users
@@ -414,7 +416,7 @@ module _ (old new : Loaded) (id : ℕ) (kept : LoadedUser) (segments : List Segm
     mid_users : map (option_map outline) (with_user old.users id (Some its)) ≡ map (option_map outline_of) (with_user state.users id (Some user))
     mid_users = set_map (option_map outline) old.users place (Some its) ∙ ap (λ us. slice_set us place (Some (outline its))) agrees.users ∙ sym (set_map (option_map outline_of) state.users place (Some user))
 
-    again_user : (u : User) → state_of.runs_again (state_of.runs_again u) ≡ state_of.runs_again u
+    again_user : (u : User) → words.runs_again (words.runs_again u) ≡ words.runs_again u
     again_user u = refl
 
     all_kept : AllKept without new.memory
@@ -455,7 +457,7 @@ module _ (old new : Loaded) (id : ℕ) (kept : LoadedUser) (segments : List Segm
       banks = did.placed.banks ∙ agrees.banks;
       slots = refl;
       users = ap kept_outlines did.users' ∙ map_all outline (with_life Running) runs_outline (λ k. refl) (with_user old.users id (Some its)) rows
-          ∙ ap (λ (os : List (Option Outline)). with_all runs_outline os rows) mid_users ∙ sym (map_all outline_of state_of.runs_again runs_outline (λ u. refl) (with_user state.users id (Some user)) rows);
+          ∙ ap (λ (os : List (Option Outline)). with_all runs_outline os rows) mid_users ∙ sym (map_all outline_of words.runs_again runs_outline (λ u. refl) (with_user state.users id (Some user)) rows);
       attached = attached_now;
       entries = like_entries resumed new.users like held (relived.entries_now old.users resumed Running ids are held agrees.entries);
       each = each_agrees;
@@ -475,7 +477,7 @@ module _ (old new : Loaded) (id : ℕ) (kept : LoadedUser) (segments : List Segm
         each_agrees : (p : ℕ) (k : LoadedUser) (u : User) → slice_get new.users p ≡ Some (Some k) → slice_get next.users p ≡ Some (Some u) → UserAgrees held new.memory (far_in new (first_id + p)) (first_id + p) k u
         each_agrees p k u made' made'' = elim (cases_eq p place) [
           | inl eq ↦
-              let one = with_all_then state_of.runs_again again_user rows (with_user state.users id (Some user)) place user (set_at state.users place (Some user) (omega (arith, inside, lists))) in
+              let one = with_all_then words.runs_again again_user rows (with_user state.users id (Some user)) place user (set_at state.users place (Some user) (omega (arith, inside, lists))) in
               let mid : one.0 ≡ user = elim one.2 [ inl l ↦ l.1 | inr l ↦ l.1 ] in
               let user_is' : user ≡ u = sym mid ∙ user_one one.0 u (sym one.1 ∙ ap (slice_get next.users) (sym eq) ∙ made'') in
               let kept_is : its ≡ k = kept_one its k (sym at_place ∙ ap (slice_get new.users) (sym eq) ∙ made') in
@@ -486,7 +488,7 @@ module _ (old new : Loaded) (id : ℕ) (kept : LoadedUser) (segments : List Segm
           | inr ne ↦
               let was = now_without p k ne made' in
               let was' : slice_get middle.users p ≡ Some (Some u) =
-              with_all_else state_of.runs_again again_user rows (with_user state.users id (Some user)) (with_user state.users id None) p u (set_apart state.users place p (Some user) ne ∙ sym (set_apart state.users place p None ne)) made'' in
+              with_all_else words.runs_again again_user rows (with_user state.users id (Some user)) (with_user state.users id None) p u (set_apart state.users place p (Some user) ne ∙ sym (set_apart state.users place p None ne)) made'' in
               others_agree held without new kept.path segments id started.entry without_sound did.placed holds kept.attached (far_in without (first_id + p)) (far_in new (first_id + p)) p k u was
               (λ f n above. far_now p k made' ne f n) (without_agrees.each p k u was was')
         ]
@@ -510,7 +512,7 @@ module _ (old new : Loaded) (id : ℕ) (kept : LoadedUser) (segments : List Segm
         ap (λ (ns : List ℕ). let m : Machine = record {
           banks = state.banks;
           slots = new.memory.slots;
-          users = with_all state_of.runs_again (with_user state.users id (Some (record (started_user kept.path (map head_of segments) did.placed.handles) { attached = ns }))) ns;
+          users = with_all words.runs_again (with_user state.users id (Some (record (started_user kept.path (map head_of segments) did.placed.handles) { attached = ns }))) ns;
         } in m) (sym rows_are),
       );
     }

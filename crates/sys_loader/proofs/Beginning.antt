@@ -17,7 +17,8 @@ use Rattle.iigs_meaning.specs.Memory.{Memory, AreAllPlaced, bytes_at}
 use Rattle.loader_machine.specs.declared.seen.SegmentHead.{SegmentHead}
 use Rattle.loader_machine.specs.declared.seen.Life.{Life}
 use Rattle.loader_machine.specs.declared.seen.Life.TheVariants.{Running}
-use Rattle.loader_machine.specs.Heads.{head_of, at_number, is_stack, stack_want, plain_want, want_of, wants_of, entry_in}
+use Rattle.loader_machine.specs.Heads.{head_of, at_number, want_of, wants_of, entry_in}
+use Rattle.loader_machine.specs.laws.Words.{is_stack}
 use Rattle.loader_machine.specs.State.{no_pokes, first_id, max_users, ids_from}
 use Rattle.loader_machine.specs.Presences.{handle_at}
 use Rattle.loader_machine.specs.Stands.{setting, stands, place_in}
@@ -39,7 +40,7 @@ use Rattle.loader_users.proofs.Settling.{addresses, is_setting}
 -- ---- new blocks
 
 pub want_some : (head : SegmentHead) → 0 < (want_of head).size
-unfolding want_of stack_want plain_want
+unfolding want_of
 want_some head = elim (decide (is_stack head)) [ inl stack ↦ rw stack (grind arith) | inr plain ↦ rw plain (grind arith) ]
 
 has_handle : (handles : List (Option Handle)) (k : ℕ) (h : Handle) → handle_at handles (suc k) ≡ Some h → slice_get handles k ≡ Some (Some h)

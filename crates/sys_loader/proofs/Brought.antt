@@ -23,8 +23,9 @@ use Rattle.loader_machine.specs.declared.seen.SegmentHead.{SegmentHead}
 use Rattle.loader_machine.specs.Heads.{head_of, at_number}
 use Rattle.loader_machine.specs.State.{no_pokes, first_id, user_of, with_user, led_by}
 use Rattle.loader_machine.specs.Presences.{handle_at, presence, there_at, lies_in, lies_at}
+use Rattle.loader_machine.specs.laws.Words.{no_far_segment, target_with}
 use Rattle.loader_machine.specs.Stands as machine
-use Rattle.loader_machine.specs.Stands.{AddressSetting, no_far_segment, target_with, setting, stands}
+use Rattle.loader_machine.specs.Stands.{AddressSetting, setting, stands}
 use Rattle.loader_machine.specs.laws.StandsLaws.{AreAlike, stands_alike}
 use Rattle.loader_agrees.specs.Agrees.{LoadedUser, Loaded, kept_outlines, Has, IsSound}
 use Rattle.loader_agrees.specs.laws.BegunSound.{want_size}

@@ -28,7 +28,8 @@ use Rattle.loader_machine.specs.Found.{HoldsLoad}
 use Rattle.loader_machine.specs.Refusals.{Refuse, bytes_refusal}
 use Rattle.loader_machine.specs.Commands.{Reply, Bytes, Jsl, Where, Entered, Lies, Shown, Refused}
 use Rattle.loader_machine.specs.laws.OnceLaws.{one_load}
-use Rattle.loader_machine.specs.Steps.{Sees, seen_of, setting_in, StandsIn, IsAt, AddressPlace, Nowhere, In, IsLocated, place_reply, Decides, Either, no_jsl, address_of, target_at_code, Enters, EntersEntry, EntersSegment, StepsJsl, Activation, OutOfSlots, OutOfRoom, Made, Answers, Steps}
+use Rattle.loader_machine.specs.Steps.{Sees, seen_of, StandsIn, IsAt, AddressPlace, Nowhere, In, IsLocated, Decides, Either, no_jsl, address_of, target_at_code, StepsJsl, Activation, OutOfSlots, OutOfRoom, Made, Steps}
+use Rattle.loader_machine.specs.laws.Words.{setting_in, place_reply, Enters, EntersEntry, EntersSegment, Answers}
 use Rattle.loader_agrees.specs.Agrees.{Loaded, Agrees, IsSound, Meets}
 use Rattle.loader_agrees.specs.laws.Apart.{steps_once_there}
 use Rattle.loader_agrees.specs.laws.Reads.{head_at}

@@ -8,8 +8,8 @@ use Rattle.iigs_meaning.specs.declared.slots.SlotContent.TheVariants.{Used}
 use Rattle.iigs_meaning.specs.declared.wants.Block.{Block}
 use Rattle.iigs_meaning.specs.Slots.{slot_at, get, used_value, with_value}
 use Rattle.iigs_meaning.specs.Fits.{Slots, block_in}
-use Rattle.loader_machine.specs.Presences.{lies_at, active_at}
-use Rattle.loader_machine.specs.Steps.{with_block_changed, changed_all, let_go, idle_block}
+use Rattle.loader_machine.specs.Presences.{active_at, lies_at}
+use Rattle.loader_machine.specs.Steps.{with_block_changed, changed_all, idle_block, let_go}
 use Rattle.loader_agrees.specs.Agrees.{IsSegments}
 use Rattle.loader_agrees.specs.laws.Slotted.{slot_apart, live_block}
 use Rattle.loader_users.proofs.Shifting.{value_here, value_in}

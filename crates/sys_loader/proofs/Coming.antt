@@ -25,7 +25,8 @@ use Rattle.loader_machine.specs.Presences.{handle_at, presence, presence_at, the
 use Rattle.loader_machine.specs.Stands.{Far, setting, setting_with, stands}
 use Rattle.loader_machine.specs.laws.StandsLaws.{AreAlike, stands_alike}
 use Rattle.loader_machine.specs.Steps.{with_both, with_segment}
-use Rattle.loader_agrees.specs.Agrees.{LoadedUser, Loaded, Outline, outline, outline_of, kept_outlines, far_in, LeadsFar, UserAgrees, Agrees, IsCall, IsOf, Has, IsSound}
+use Rattle.loader_agrees.specs.Agrees.{LoadedUser, Loaded, Outline, outline, outline_of, kept_outlines, LeadsFar, UserAgrees, Agrees, IsCall, IsOf, Has, IsSound}
+use Rattle.loader_agrees.specs.laws.Words.{far_in}
 use Rattle.loader_agrees.specs.laws.Begun.{decide}
 use Rattle.loader_agrees.specs.laws.BegunSound.{want_size}
 use Rattle.loader_agrees.specs.laws.Frame.{Keeps, Same, Gone, agrees_still}

@@ -20,13 +20,15 @@ use Rattle.iigs_meaning.specs.Blocks.{address_in}
 use Rattle.loader_machine.specs.declared.seen.SegmentHead.{SegmentHead}
 use Rattle.loader_machine.specs.declared.seen.Life.TheVariants.{Running, Dormant}
 use Rattle.loader_machine.specs.Heads.{at_number, is_static, is_table}
-use Rattle.loader_machine.specs.State.{User, Machine, Outline, outline_of, outlines, first_id, user_of, with_user, without_all, family, attached_at, is_attached, handles_in}
+use Rattle.loader_machine.specs.State.{User, Machine, Outline, outline_of, outlines, first_id, user_of, with_user, without_all, attached_at, is_attached, handles_in}
+use Rattle.loader_machine.specs.laws.Words.{family, dropped_state}
 use Rattle.loader_machine.specs.Presences.{handle_at, presence, presence_at, there_at, active_at, is_active, lies_in}
 use Rattle.loader_machine.specs.Stands.{far_of}
 use Rattle.loader_machine.specs.Refusals.{shut_down_refusal}
 use Rattle.loader_machine.specs.Commands.{Okay, ShutDown}
-use Rattle.loader_machine.specs.Steps.{dropped_state, without_users}
-use Rattle.loader_agrees.specs.Agrees.{LoadedUser, Loaded, outline, kept_outlines, seen_by, far_in, UserAgrees, AreAttached, LeadsFar, EntriesLead, Agrees, IsCall, IsOf, Has, IsSound, Met}
+use Rattle.loader_machine.specs.Steps.{without_users}
+use Rattle.loader_agrees.specs.Agrees.{LoadedUser, Loaded, outline, kept_outlines, seen_by, UserAgrees, AreAttached, LeadsFar, Agrees, IsCall, IsOf, Has, IsSound, Met}
+use Rattle.loader_agrees.specs.laws.Words.{far_in, EntriesLead}
 use Rattle.loader_agrees.specs.laws.Begun.{decide}
 use Rattle.loader_agrees.specs.laws.Frame.{Same, agrees_still}
 use Rattle.loader_agrees.specs.laws.Lists.{set_map, set_at, set_apart, length_set}

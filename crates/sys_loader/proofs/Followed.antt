@@ -25,12 +25,14 @@ use Rattle.loader_machine.specs.State.{Machine, Outline, outlines, first_id, use
 use Rattle.loader_machine.specs.declared.seen.Presence.{Presence}
 use Rattle.loader_machine.specs.declared.seen.Presence.TheVariants.{Absent, Purged, Idle, Active}
 use Rattle.loader_machine.specs.Presences.{presence, presence_at, there_at, lies_in, lies_at}
-use Rattle.loader_machine.specs.Stands.{AddressSetting, setting_with, entry_for, stands}
+use Rattle.loader_machine.specs.laws.Words.{entry_for, Enters, EntersEntry}
+use Rattle.loader_machine.specs.Stands.{AddressSetting, setting_with, stands}
 use Rattle.loader_machine.specs.Refusals.{Refuse, bytes_refusal, load_segment_refusal}
-use Rattle.loader_machine.specs.Steps.{Sees, StandsIn, IsAt, AddressPlace, Nowhere, In, IsLocated, Decides, Either, no_jsl, address_of, target_at_code, Enters, EntersEntry, MakesActive, StepsJsl}
+use Rattle.loader_machine.specs.Steps.{Sees, StandsIn, IsAt, AddressPlace, Nowhere, In, IsLocated, Decides, Either, no_jsl, address_of, target_at_code, MakesActive, StepsJsl}
 use Rattle.loader_machine.specs.Needs.{Needs, Reaches, is_read, path_if}
 use Rattle.loader_machine.specs.Commands.{Reply, Jsl, Entered, Refused}
-use Rattle.loader_agrees.specs.Agrees.{far_in, LoadedUser, Loaded, kept_outlines, seen_by, LeadsFar, Agrees, Has, IsSound, Meets}
+use Rattle.loader_agrees.specs.Agrees.{LoadedUser, Loaded, kept_outlines, seen_by, LeadsFar, Agrees, Has, IsSound, Meets}
+use Rattle.loader_agrees.specs.laws.Words.{far_in}
 use Rattle.loader_agrees.specs.Acts.{HasBorrowed, LiesIn}
 use Rattle.loader_agrees.specs.laws.Reads.{its_segment, begins, stands_there, stands_size, at_there, within_front, lies_back, sees_of, one, user}
 use Rattle.loader_agrees.specs.laws.BegunSound.{want_size}

@@ -14,8 +14,9 @@ use Rattle.iigs_meaning.specs.Blocks.{address_in}
 use Rattle.iigs_meaning.specs.Memory.{Memory, IsThere, Changes}
 use Rattle.loader_machine.specs.declared.seen.Presence.TheVariants.{Absent, Purged, Idle, Active}
 use Rattle.loader_machine.specs.Presences.{presence, lies_in, lies_at}
-use Rattle.loader_machine.specs.Steps.{with_block_changed, changed_all, let_go, idle_block}
-use Rattle.loader_machine.specs.State.{user_of, family, handles_of_all}
+use Rattle.loader_machine.specs.laws.Words.{family, handles_of_all}
+use Rattle.loader_machine.specs.Steps.{with_block_changed, changed_all, idle_block, let_go}
+use Rattle.loader_machine.specs.State.{user_of}
 use Rattle.loader_agrees.specs.Agrees.{LoadedUser, kept_outlines}
 use Rattle.loader_agrees.specs.laws.Slotted.{slot_set, live_block}
 use Rattle.loader_users.specs.declared.user.UserSegment as users

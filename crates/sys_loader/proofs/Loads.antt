@@ -18,11 +18,12 @@ use Rattle.loader_machine.specs.declared.faults.LoaderFault.{LoaderFault}
 use Rattle.loader_machine.specs.declared.faults.LoaderFault.TheVariants as fault
 use Rattle.loader_machine.specs.Heads.{head_of, wants_of}
 use Rattle.loader_machine.specs.State.{Machine, User, first_id, max_users}
-use Rattle.loader_machine.specs.Found.{HoldsFile, HoldsLoad, HoldsFault, FileFound, Unread, Bad, Good, IsFound, Joined, Stops, Joins, joined_after, AreJoined, reads_of}
+use Rattle.loader_machine.specs.Found.{HoldsFile, HoldsLoad, HoldsFault, FileFound, Unread, Bad, Good, IsFound, Joined, Stops, Joins, AreJoined, joined_after}
+use Rattle.loader_machine.specs.laws.Words.{reads_of, LoadsFound, LoadsJoined, begun_users, rows_of}
 use Rattle.loader_machine.specs.Commands.{Reply, Command, Load, Refused}
 use Rattle.loader_machine.specs.Refusals.{load_refusal, rows_refusal}
-use Rattle.loader_machine.specs.Steps.{NoSlots, Lacks, Begins, LoadsFound, LoadsJoined, Steps, begun_users}
-use Rattle.loader_machine.specs.Needs.{Needs, NeedsAfter, rows_of}
+use Rattle.loader_machine.specs.Steps.{NoSlots, Lacks, Begins, Steps}
+use Rattle.loader_machine.specs.Needs.{Needs, NeedsAfter}
 use Rattle.loader_agrees.specs.Agrees.{Loaded, outline, outline_of, IsSound, Agrees, Meets, ReadsNeeded, MeetsReads}
 use Rattle.loader_agrees.specs.laws.Begun.{may_load}
 use Rattle.loader_agrees.specs.laws.BegunMet.{load_met}

@@ -29,11 +29,12 @@ use Rattle.loader_machine.specs.declared.seen.Presence.TheVariants.{Absent, Purg
 use Rattle.loader_machine.specs.Heads.{head_of, is_static}
 use Rattle.loader_machine.specs.State.{Pokes, User, Machine, handles_of, held_at}
 use Rattle.loader_machine.specs.Presences.{presence_at, there_at, is_active}
-use Rattle.loader_machine.specs.Stands.{AddressSetting, place_in, over_from, with_pokes, read_bytes, stands, entries_bytes}
+use Rattle.loader_machine.specs.Stands.{AddressSetting, place_in, over_from, stands}
+use Rattle.loader_machine.specs.laws.Words.{read_bytes, entries_bytes, setting_in}
 use Rattle.loader_machine.specs.Found.{HoldsLoad}
 use Rattle.loader_machine.specs.Commands.{Where, Lies}
 use Rattle.loader_machine.specs.laws.OnceLaws.{one_load}
-use Rattle.loader_machine.specs.Steps.{IsAt, setting_in}
+use Rattle.loader_machine.specs.Steps.{IsAt}
 use Rattle.loader_agrees.specs.Agrees.{Outline, Loaded, Agrees, IsSound, Met}
 use Rattle.loader_agrees.specs.Acts.{LiesIn}
 use Rattle.loader_agrees.specs.laws.Apart.{back, steps_once_there}
@@ -120,13 +121,12 @@ module _ (segments : List Segment) (number : ℕ) (s : Segment) (sound : IsSound
           (sym (slice_get-map Byte (segment_bytes s) at) ∙ ap (λ (cs : List Cell). slice_get cs at) (sym (cells-bytes s (sound.table is).unpatched)) ∙ part))
 
 plain_bytes : (at : AddressSetting) (s : Segment) → is_table s ≡ false → read_bytes at s ≡ map (byte_of at.place) (cells s)
-unfolding read_bytes
 plain_bytes at s is = ap (λ (b : Bool). cond b (entries_bytes at (targets_of s)) (map (byte_of at.place) (cells s))) is
 
 -- the content has the byte of a cell where nothing was written
 pub cell_stands : (where' : AddressSetting) (pokes : Pokes) (s : Segment) (at : ℕ) (c : Cell) → is_table s ≡ false → slice_get (cells s) at ≡ Some c → get pokes at ≡ None
     → slice_get (stands where' pokes s) at ≡ Some (byte_of where'.place c)
-unfolding stands with_pokes
+unfolding stands
 cell_stands where' pokes s at c plain is none = let same : 0 + at ≡ at = omega arith in
     over_at 0 pokes (read_bytes where' s) at (byte_of where'.place c) (ap (get pokes) same ∙ none)
     (ap (λ (bs : List ℕ). slice_get bs at) (plain_bytes where' s plain) ∙ slice_get-map (byte_of where'.place) (cells s) at ∙ ap (option_map (byte_of where'.place)) is)

@@ -18,7 +18,7 @@ use Rattle.loader_machine.specs.laws.OnceLaws.{IsApartState, segment_same, seen_
 use Rattle.loader_machine.specs.Commands.{LoadSegment, Jsl, Restart}
 use Rattle.loader_machine.specs.Refusals.{Refuse, bytes_refusal, load_segment_refusal, restart_refusal}
 use Rattle.loader_machine.specs.Steps.{Sees, IsSeen, IsAt, seen_of, are_there, no_jsl, address_of, target_at_code}
-use Rattle.loader_machine.specs.Needs as needs
+use Rattle.loader_machine.specs.laws.Words as words
 use Rattle.loader_machine.specs.Needs.{NeedsOf, IsReadFor, Reaches, is_read, path_if, some_read_again}
 use Rattle.loader_agrees.specs.Agrees.{LoadedUser, Loaded, Outline, kept_outlines, seen_in, seen_by, Agrees, IsSound, ReadsNeeded}
 use Rattle.loader_agrees.specs.Acts.{HasBorrowed, LiesIn}
@@ -115,19 +115,19 @@ module _ (held : FileMap) (old : Loaded) (state : Machine) (agrees : Agrees held
   pub restart_needs : (restart_refusal its_own (seen_by old id) ≡ None → restart_reads old id ≡ true → now ≡ one_more before)
       → (restart_reads old id ≡ false → now ≡ before) → (IsSome (restart_refusal its_own (seen_by old id)) → now ≡ before) → ReadsNeeded held state (Restart id) 0 before now
   restart_needs asked unasked refused =
-      user_needs held old state agrees id (restart_refusal (is_attached (outlines state.users) id)) (λ seen user. needs.restart_reads state seen) (restart_reads old id) before now
+      user_needs held old state agrees id (restart_refusal (is_attached (outlines state.users) id)) (λ seen user. words.restart_reads state seen) (restart_reads old id) before now
       same (not_kept old id (λ kept. not (are_there old.memory.slots kept.heads kept.handles 1) || some_read_again kept.heads))
       (λ passes. asked (sym (of_own (seen_by old id)) ∙ passes)) unasked (λ stops. refused (subst (λ (r : Refuse). IsSome r) (of_own (seen_by old id)) stops))
     where
       of_own : (seen : Option UserSeen) → restart_refusal (is_attached (outlines state.users) id) seen ≡ restart_refusal its_own seen
       of_own seen = ap (λ (b : Bool). restart_refusal b seen) same_own
 
-      same : (sees : Sees held state id) → seen_by old id ≡ Some (seen_of sees.user sees.segments) → needs.restart_reads state (seen_of sees.user sees.segments) ≡ restart_reads old id
+      same : (sees : Sees held state id) → seen_by old id ≡ Some (seen_of sees.user sees.segments) → words.restart_reads state (seen_of sees.user sees.segments) ≡ restart_reads old id
       same sees is =
           let kept = kept_of old id (seen_of sees.user sees.segments) is in
           sym (ap (λ (o : Option LoadedUser). option_map_or (λ k. not (are_there old.memory.slots k.heads k.handles 1) || some_read_again k.heads) o false) kept.1
           ∙ ap (λ (t : Slots). not (are_there t kept.0.heads kept.0.handles 1) || some_read_again kept.0.heads) agrees.slots
-          ∙ ap (λ (seen : UserSeen). needs.restart_reads state seen) kept.2)
+          ∙ ap (λ (seen : UserSeen). words.restart_reads state seen) kept.2)
 
 -- ---- jsl
 

@@ -25,10 +25,12 @@ use Rattle.loader_machine.specs.Presences.{handle_at, presence, is_active}
 use Rattle.loader_machine.specs.Stands.{stands, setting_with}
 use Rattle.loader_machine.specs.laws.StandsLaws.{stands_long}
 use Rattle.loader_machine.specs.laws.PokeLaws.{poked_begins}
-use Rattle.loader_machine.specs.Refusals.{Refuse, of_user, of_running, of_segment, of_active, of_plain, of_inside, poke_refusal}
+use Rattle.loader_machine.specs.Refusals.{Refuse, of_user, of_running, of_segment, of_active, of_inside, poke_refusal}
+use Rattle.loader_machine.specs.laws.Words.{of_plain}
 use Rattle.loader_machine.specs.Commands.{Okay, Refused, Poke}
 use Rattle.loader_machine.specs.Steps.{with_segment, with_both}
-use Rattle.loader_agrees.specs.Agrees.{LoadedUser, Loaded, Outline, outline_of, seen_by, far_in, UserAgrees, Agrees, IsCall, IsOf, Has, IsSound, Met}
+use Rattle.loader_agrees.specs.Agrees.{LoadedUser, Loaded, Outline, outline_of, seen_by, UserAgrees, Agrees, IsCall, IsOf, Has, IsSound, Met}
+use Rattle.loader_agrees.specs.laws.Words.{far_in}
 use Rattle.loader_agrees.specs.Checks.{PassesRunning, PassesSegment}
 use Rattle.loader_agrees.specs.laws.Checking.{active_none, active_passes, inside_none, inside_passes}
 use Rattle.loader_agrees.specs.laws.Lists.{set_map, set_same, set_at, set_apart, length_set, set_like}

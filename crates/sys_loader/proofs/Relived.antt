@@ -13,7 +13,8 @@ use Rattle.loader_machine.specs.Heads.{at_number}
 use Rattle.loader_machine.specs.State.{Outline, first_id, user_of, with_all, attached_at}
 use Rattle.loader_machine.specs.Presences.{handle_at}
 use Rattle.loader_machine.specs.Found.{HoldsLoad}
-use Rattle.loader_agrees.specs.Agrees.{LoadedUser, outline, kept_outlines, IsJoined, AreAttached, LeadsFar, EntriesLead, IsCall, Has}
+use Rattle.loader_agrees.specs.Agrees.{LoadedUser, outline, kept_outlines, IsJoined, AreAttached, LeadsFar, IsCall, Has}
+use Rattle.loader_agrees.specs.laws.Words.{EntriesLead}
 use Rattle.loader_agrees.specs.laws.Begun.{decide}
 use Rattle.loader_agrees.specs.laws.RowUsers.{user_there}
 use Rattle.loader_agrees.specs.laws.Seeing.{made_at, user_is}

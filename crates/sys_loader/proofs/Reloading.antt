@@ -25,7 +25,8 @@ use Rattle.loader_machine.specs.State.{UserSeen, first_id, user_of, with_user, w
 use Rattle.loader_machine.specs.Presences.{handle_at, presence, presence_at, there_at, is_there, is_active, active_at}
 use Rattle.load_meaning.specs.Loadable.{IsLoadable}
 use Rattle.loader_machine.specs.Refusals.{restart_refusal}
-use Rattle.loader_machine.specs.Stands.{no_far_segment, place_in, setting, target_with}
+use Rattle.loader_machine.specs.Stands.{place_in, setting}
+use Rattle.loader_machine.specs.laws.Words.{no_far_segment, target_with}
 use Rattle.loader_machine.specs.Steps.{active_block, changed_all, static_handles, is_read_again, lost_refusal}
 use Rattle.loader_agrees.specs.Agrees.{LoadedUser, Loaded, outline, IsCall, Has, IsSound}
 use Rattle.loader_agrees.specs.laws.Begun.{decide}

@@ -8,10 +8,11 @@ use Rattle.loader_machine.specs.declared.seen.SegmentHead.{SegmentHead}
 use Rattle.loader_machine.specs.declared.seen.Life.TheVariants.{Running, Dormant}
 use Rattle.loader_machine.specs.Heads.{head_of, at_number, is_static}
 use Rattle.loader_machine.specs.State.{User, Machine, Outline, outline_of, first_id, with_all, attached_at, handles_in}
-use Rattle.loader_machine.specs.State as state_of
+use Rattle.loader_machine.specs.laws.Words as words
 use Rattle.loader_machine.specs.Presences.{presence_at, active_at, is_active}
 use Rattle.loader_machine.specs.Stands.{far_of}
-use Rattle.loader_agrees.specs.Agrees.{LoadedUser, Loaded, outline, kept_outlines, far_in, UserAgrees, Agrees, IsSound}
+use Rattle.loader_agrees.specs.Agrees.{LoadedUser, Loaded, outline, kept_outlines, UserAgrees, Agrees, IsSound}
+use Rattle.loader_agrees.specs.laws.Words.{far_in}
 use Rattle.loader_agrees.specs.laws.Frame.{Same, agrees_still}
 use Rattle.loader_agrees.specs.laws.Reads.{head_at}
 use Rattle.loader_agrees.specs.laws.RowUsers.{user_there}
@@ -92,7 +93,7 @@ module _ (memory : Memory) (old new : List (Option LoadedUser)) (ids : List ℕ)
     still p k u made was = agrees_still held memory memory (far_in was_loader (first_id + p)) (far_in now_loader (first_id + p)) (first_id + p) k u was (λ n j found. Same refl (λ there. refl)) (λ f n above. far_same p k made f n)
 
     runs : (p : ℕ) (k : LoadedUser) (u : User) → slice_get old p ≡ Some (Some k) → is_in ids (first_id + p) ≡ true → UserAgrees held memory (far_in was_loader (first_id + p)) (first_id + p) k u
-        → UserAgrees held memory (far_in now_loader (first_id + p)) (first_id + p) (with_life Running k) (state_of.runs_again u)
+        → UserAgrees held memory (far_in now_loader (first_id + p)) (first_id + p) (with_life Running k) (words.runs_again u)
     runs p k u made inside was =
         let one = still p k u made was in
         record {
@@ -109,19 +110,19 @@ module _ (memory : Memory) (old new : List (Option LoadedUser)) (ids : List ℕ)
     runs_outline : Outline → Outline
     runs_outline o = record o { life = Running }
 
-    pub rerun_agrees : Agrees held (record { memory = memory; users = new }) (record { banks = state.banks; slots = state.slots; users = with_all state_of.runs_again state.users ids })
+    pub rerun_agrees : Agrees held (record { memory = memory; users = new }) (record { banks = state.banks; slots = state.slots; users = with_all words.runs_again state.users ids })
     unfolding runs_outline
     rerun_agrees = record {
       banks = agrees.banks;
       slots = agrees.slots;
       users = ap kept_outlines are ∙ map_all outline (with_life Running) runs_outline (λ k. refl) old ids ∙ ap (λ (os : List (Option Outline)). with_all runs_outline os ids) agrees.users
-          ∙ sym (map_all outline_of state_of.runs_again runs_outline (λ u. refl) state.users ids);
+          ∙ sym (map_all outline_of words.runs_again runs_outline (λ u. refl) state.users ids);
       attached = relived.attached_now old new Running ids are sound.attached together;
       entries = relived.entries_now old new Running ids are held agrees.entries;
-      each = λ p k user made made'. each_agrees p k user (users_now p k made) (with_all_get state_of.runs_again (λ u. refl) ids state.users p user made');
+      each = λ p k user made made'. each_agrees p k user (users_now p k made) (with_all_get words.runs_again (λ u. refl) ids state.users p user made');
     }
       where
-        each_agrees : (p : ℕ) (k : LoadedUser) (user : User) → Was (with_life Running) (relived.life_again Running) old ids p k → Was state_of.runs_again (λ u. refl) state.users ids p user
+        each_agrees : (p : ℕ) (k : LoadedUser) (user : User) → Was (with_life Running) (relived.life_again Running) old ids p k → Was words.runs_again (λ u. refl) state.users ids p user
             → UserAgrees held memory (far_in now_loader (first_id + p)) (first_id + p) k user
         each_agrees p k user w v = elim w.is [
           | inl inside ↦ elim v.is [

@@ -24,8 +24,9 @@ use Rattle.loader_machine.specs.Found.{HoldsLoad, Bad, Good}
 use Rattle.loader_machine.specs.laws.OnceLaws.{one_load, found_once}
 use Rattle.loader_machine.specs.Commands.{Reply, Started, Restart, Refused}
 use Rattle.loader_machine.specs.Refusals.{Refuse, restart_refusal}
-use Rattle.loader_machine.specs.Steps.{Sees, seen_of, NoSlots, Lacks, Begins, Either, StepsRestart, Steps, active_block, changed_all, are_there, static_handles, is_read_again, entry_of, again_users, lost_refusal}
-use Rattle.loader_machine.specs.Needs as needs
+use Rattle.loader_machine.specs.Steps.{Sees, seen_of, NoSlots, Lacks, Begins, Either, StepsRestart, Steps, active_block, changed_all, are_there, static_handles, is_read_again, entry_of, lost_refusal}
+use Rattle.loader_machine.specs.laws.Words.{again_users}
+use Rattle.loader_machine.specs.laws.Words as words
 use Rattle.loader_machine.specs.Needs.{Needs, some_read_again, path_if}
 use Rattle.loader_agrees.specs.Agrees.{LoadedUser, Loaded, Outline, kept_outlines, AreAttached, seen_in, seen_by, Agrees, IsSound, Meets}
 use Rattle.loader_agrees.specs.laws.Seeing.{IsKept, kept_is, made_at, refuses, does}
@@ -108,13 +109,13 @@ module _ (held : FileMap) (old : Loaded) (state : Machine) (id : ℕ) (sound : I
       let seen_same : seen_in kept ≡ seen_of is.user is.does_agree.segments = same_seen in
       let passes : restart_refusal (is_attached (outlines state.users) id) (Some (seen_of is.user is.does_agree.segments)) ≡ None =
       ap (λ (s : UserSeen). restart_refusal (is_attached (outlines state.users) id) (Some s)) (sym seen_same) ∙ ap (restart_refusal (is_attached (outlines state.users) id)) (sym (ap (option_map seen_in) can.made)) ∙ passes_there in
-      let here : needs.restart_reads state (seen_of is.user is.does_agree.segments) ≡ true =
+      let here : words.restart_reads state (seen_of is.user is.does_agree.segments) ≡ true =
       ap (λ (b : Bool). not b || some_read_again (map head_of is.does_agree.segments)) (sym whole_same)
       ∙ ap (λ (hs : List SegmentHead). not (is_whole old kept) || some_read_again hs) (sym is.does_agree.heads)
       ∙ sym (ap (λ (o : Option LoadedUser). option_map_or (λ k. not (is_whole old k) || some_read_again k.heads) o false) can.made) ∙ reads in
       inr (
         sees,
-        sym (ap (λ (r : Refuse). path_if r (needs.restart_reads state (seen_of is.user is.does_agree.segments)) is.user.path) passes ∙ ap (λ (b : Bool). path_if None b is.user.path) here),
+        sym (ap (λ (r : Refuse). path_if r (words.restart_reads state (seen_of is.user is.does_agree.segments)) is.user.path) passes ∙ ap (λ (b : Bool). path_if None b is.user.path) here),
       )
     where
       same_seen : seen_in kept ≡ seen_of is.user is.does_agree.segments

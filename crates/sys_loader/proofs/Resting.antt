@@ -22,14 +22,16 @@ use Rattle.loader_machine.specs.declared.seen.Life.TheVariants.{Running, Dormant
 use Rattle.loader_machine.specs.declared.seen.Presence.{Presence}
 use Rattle.loader_machine.specs.declared.seen.Presence.TheVariants.{Absent, Purged, Idle, Active}
 use Rattle.loader_machine.specs.Heads.{head_of, at_number, is_static, is_table}
-use Rattle.loader_machine.specs.State.{User, Machine, UserSeen, Outline, outline_of, outlines, first_id, user_of, family, handles_in, handles_of_all, with_all, attached_at, is_attached}
-use Rattle.loader_machine.specs.State as state_of
+use Rattle.loader_machine.specs.State.{User, Machine, UserSeen, Outline, outline_of, outlines, first_id, user_of, handles_in, with_all, attached_at, is_attached}
+use Rattle.loader_machine.specs.laws.Words.{family, handles_of_all, kept_state}
+use Rattle.loader_machine.specs.laws.Words as words
 use Rattle.loader_machine.specs.Presences.{handle_at, presence, presence_at, there_at, active_at, is_active, lies_in, lies_at}
 use Rattle.loader_machine.specs.Stands.{setting_with, far_of}
 use Rattle.loader_machine.specs.Refusals.{shut_down_refusal}
 use Rattle.loader_machine.specs.Commands.{Okay, ShutDown}
-use Rattle.loader_machine.specs.Steps.{let_go, changed_all, kept_state}
-use Rattle.loader_agrees.specs.Agrees.{LoadedUser, Loaded, outline, kept_outlines, far_in, seen_by, IsJoined, AreAttached, IsCall, UserAgrees, Agrees, IsOf, Has, IsSound, Met}
+use Rattle.loader_machine.specs.Steps.{changed_all, let_go}
+use Rattle.loader_agrees.specs.Agrees.{LoadedUser, Loaded, outline, kept_outlines, seen_by, IsJoined, AreAttached, IsCall, UserAgrees, Agrees, IsOf, Has, IsSound, Met}
+use Rattle.loader_agrees.specs.laws.Words.{far_in}
 use Rattle.loader_agrees.specs.laws.Begun.{decide}
 use Rattle.loader_agrees.specs.Checks.{PassesRunning, StopsRunning}
 use Rattle.loader_agrees.specs.laws.RowUsers.{user_there}
@@ -388,7 +390,7 @@ module _ (old new : Loaded) (id : ℕ) (sound : IsSound old.memory old.users) (d
       ]
 
       becomes : (n : ℕ) (s : Segment) (j : Handle) → segment_at was.segments n ≡ Some s → handle_at k.handles n ≡ Some j → IsSome (there_at (presence_at new.memory.slots k.handles n))
-          → Becomes (setting_with (far_in old (first_id + p)) (first_id + p) old.memory.slots k.handles) (setting_with (far_in new (first_id + p)) (first_id + p) new.memory.slots k.handles) None None old.memory new.memory k user (state_of.dormant_user user) n s j
+          → Becomes (setting_with (far_in old (first_id + p)) (first_id + p) old.memory.slots k.handles) (setting_with (far_in new (first_id + p)) (first_id + p) new.memory.slots k.handles) None None old.memory new.memory k user (words.dormant_user user) n s j
       becomes n s j found has present =
           let present' : IsSome (there_at (presence new.memory.slots (Some j))) = subst (λ (o : Option Handle). IsSome (there_at (presence new.memory.slots o))) has present in
           let before : IsSome (there_at (presence_at old.memory.slots k.handles n)) = rw (← there_now p k made inside n) present in
@@ -403,7 +405,7 @@ module _ (old new : Loaded) (id : ℕ) (sound : IsSound old.memory old.users) (d
                 ∙ plain_bytes p n (head_of s) j (record { kept = k; made = made; head' = heads_at n s found; handle = has }) (λ e. plain))
           ]
 
-      turned : Turned old.memory new.memory (far_in old (first_id + p)) (far_in new (first_id + p)) (first_id + p) None None k (rests k) user (state_of.dormant_user user) was.segments
+      turned : Turned old.memory new.memory (far_in old (first_id + p)) (far_in new (first_id + p)) (first_id + p) None None k (rests k) user (words.dormant_user user) was.segments
       turned = record {
         same = ap (λ (o : Outline). let new : Outline = record o { life = Dormant } in new) was.same;
         path = refl;
@@ -421,8 +423,8 @@ module _ (old new : Loaded) (id : ℕ) (sound : IsSound old.memory old.users) (d
         each = λ there n s j found has present. becomes n s j found has present;
       }
 
-      family_agrees : UserAgrees held new.memory (far_in new (first_id + p)) (first_id + p) (rests k) (state_of.dormant_user user)
-      family_agrees = turned_agrees held old.memory new.memory (far_in old (first_id + p)) (far_in new (first_id + p)) (first_id + p) None None k (rests k) user (state_of.dormant_user user) was
+      family_agrees : UserAgrees held new.memory (far_in new (first_id + p)) (first_id + p) (rests k) (words.dormant_user user)
+      family_agrees = turned_agrees held old.memory new.memory (far_in old (first_id + p)) (far_in new (first_id + p)) (first_id + p) None None k (rests k) user (words.dormant_user user) was
           (entries_lead held old state agrees sound (first_id + p) k (user_there old.users p k made) None None (λ t above far c some. absurd cc) was.segments was.holds) (sound.short p k made) turned
 
     -- every other user agrees still
@@ -445,7 +447,7 @@ module _ (old new : Loaded) (id : ℕ) (sound : IsSound old.memory old.users) (d
     next_of family = record {
       banks = state.banks;
       slots = changed_all let_go state.slots (handles_of_all (outlines state.users) family);
-      users = with_all state_of.dormant_user state.users family;
+      users = with_all words.dormant_user state.users family;
     }
 
     agrees_of : Agrees held new (next_of ids)
@@ -454,13 +456,13 @@ module _ (old new : Loaded) (id : ℕ) (sound : IsSound old.memory old.users) (d
       banks = did.idled.bytes.banks ∙ did.renewed.banks ∙ agrees.banks;
       slots = slots_are ∙ ap (λ (t : Slots). changed_all let_go t (handles_of_all (kept_outlines old.users) ids)) agrees.slots ∙ ap (λ (os : List (Option Outline)). changed_all let_go state.slots (handles_of_all os ids)) agrees.users;
       users = ap kept_outlines did.users ∙ map_all outline rests rests_outline (λ k. refl) old.users ids ∙ ap (λ (os : List (Option Outline)). with_all rests_outline os ids) agrees.users
-          ∙ sym (map_all outline_of state_of.dormant_user rests_outline (λ u. refl) state.users ids);
+          ∙ sym (map_all outline_of words.dormant_user rests_outline (λ u. refl) state.users ids);
       attached = attached_now;
       entries = relived.entries_now old.users new.users Dormant ids did.users held agrees.entries;
-      each = λ p k user made made'. each_agrees p k user (users_now p k made) (with_all_get state_of.dormant_user (λ u. refl) ids state.users p user made');
+      each = λ p k user made made'. each_agrees p k user (users_now p k made) (with_all_get words.dormant_user (λ u. refl) ids state.users p user made');
     }
       where
-        each_agrees : (p : ℕ) (k : LoadedUser) (user : User) → Was rests (relived.life_again Dormant) old.users ids p k → Was state_of.dormant_user (λ u. refl) state.users ids p user
+        each_agrees : (p : ℕ) (k : LoadedUser) (user : User) → Was rests (relived.life_again Dormant) old.users ids p k → Was words.dormant_user (λ u. refl) state.users ids p user
             → UserAgrees held new.memory (far_in new (first_id + p)) (first_id + p) k user
         each_agrees p k user w v = elim w.is [
           | inl inside ↦ elim v.is [

@@ -19,14 +19,15 @@ use Rattle.loader_machine.specs.declared.seen.SegmentHead.{SegmentHead}
 use Rattle.loader_machine.specs.declared.seen.Life.TheVariants.{Running, Dormant}
 use Rattle.loader_machine.specs.Heads.{head_of, at_number, is_static, is_table}
 use Rattle.loader_machine.specs.State.{HeldSegment, User, Machine, fresh, absent, no_pokes, first_id, user_of, with_user, with_all, handles_of, held_at, attached_at, handles_in, Outline, outline_of}
-use Rattle.loader_machine.specs.State as state_of
+use Rattle.loader_machine.specs.laws.Words as words
 use Rattle.loader_machine.specs.declared.seen.Presence.{Presence}
 use Rattle.loader_machine.specs.declared.seen.Presence.TheVariants.{Absent, Purged, Idle, Active}
 use Rattle.loader_machine.specs.Presences.{handle_at, presence, presence_at, there_at, active_at, is_active, is_there, lies_in, lies_at}
 use Rattle.loader_machine.specs.Stands.{AddressSetting, setting, setting_with, far_of, stands}
 use Rattle.loader_machine.specs.laws.StandsLaws.{AreAlike, stands_alike}
 use Rattle.loader_machine.specs.Steps.{active_block, changed_all, are_there, static_handles, is_read_again, read_again}
-use Rattle.loader_agrees.specs.Agrees.{LoadedUser, Loaded, outline, kept_outlines, IsSegments, AreThere, far_in, IsJoined, AreAttached, UserAgrees, Agrees, IsCall, IsOf, Has, IsSound}
+use Rattle.loader_agrees.specs.Agrees.{LoadedUser, Loaded, outline, kept_outlines, IsSegments, IsJoined, AreAttached, UserAgrees, Agrees, IsCall, IsOf, Has, IsSound}
+use Rattle.loader_agrees.specs.laws.Words.{AreThere, far_in}
 use Rattle.loader_agrees.specs.laws.Begun.{decide}
 use Rattle.loader_agrees.specs.laws.Frame.{Same, agrees_still}
 use Rattle.loader_agrees.specs.laws.Lists.{set_map, set_at, set_apart}
@@ -605,7 +606,7 @@ module _ (old new : Loaded) (id : ℕ) (kept : LoadedUser) (started : Started) (
         (λ f n above. far_same p k made' f n)
 
     row_agrees : (p : ℕ) (k : LoadedUser) (u : User) → slice_get old.users p ≡ Some (Some k) → p ≢ place → IsJoined kept.life k → UserAgrees held old.memory (far_in old (first_id + p)) (first_id + p) k u
-        → UserAgrees held new.memory (far_in new (first_id + p)) (first_id + p) (with_life Running k) (state_of.runs_again u)
+        → UserAgrees held new.memory (far_in new (first_id + p)) (first_id + p) (with_life Running k) (words.runs_again u)
     row_agrees p k u made' ne joined was =
         let still = others_agree p k u made' ne was in
         record {
@@ -640,7 +641,7 @@ module _ (old new : Loaded) (id : ℕ) (kept : LoadedUser) (started : Started) (
     next_of rows = record {
       banks = state.banks;
       slots = changed_all active_block state.slots (static_handles (map head_of is.does_agree.segments) (handles_of is.user) 1);
-      users = with_all state_of.runs_again (with_user state.users id (Some user')) rows;
+      users = with_all words.runs_again (with_user state.users id (Some user')) rows;
     }
 
     user_one : (a b : User) → Some (Some a) ≡ Some (Some b) → a ≡ b
@@ -652,10 +653,10 @@ module _ (old new : Loaded) (id : ℕ) (kept : LoadedUser) (started : Started) (
       banks = did.bytes.banks ∙ reread.banks ∙ agrees.banks;
       slots = next_slots;
       users = ap (map (option_map outline)) did.users' ∙ map_all outline (with_life Running) runs_outline (λ k. refl) (with_user old.users id (Some runs)) kept.attached
-          ∙ ap (λ (us : List (Option Outline)). with_all runs_outline us kept.attached) mid_users ∙ sym (map_all outline_of state_of.runs_again runs_outline (λ u. refl) (with_user state.users id (Some user')) kept.attached);
+          ∙ ap (λ (us : List (Option Outline)). with_all runs_outline us kept.attached) mid_users ∙ sym (map_all outline_of words.runs_again runs_outline (λ u. refl) (with_user state.users id (Some user')) kept.attached);
       attached = attached_now;
       entries = relived.entries_now old.users new.users Running ids are held agrees.entries;
-      each = λ p k u made' made''. each_agrees p k u (users_now p k made') (with_all_get state_of.runs_again (λ x. refl) kept.attached (with_user state.users id (Some user')) p u made'');
+      each = λ p k u made' made''. each_agrees p k u (users_now p k made') (with_all_get words.runs_again (λ x. refl) kept.attached (with_user state.users id (Some user')) p u made'');
     }
       where
         out_rows : (p : ℕ) → In p ≡ false → (p ≢ place) × (is_in kept.attached (first_id + p) ≡ false)
@@ -668,13 +669,13 @@ module _ (old new : Loaded) (id : ℕ) (kept : LoadedUser) (started : Started) (
             go true e = absurd cc
             go false e = e
 
-        each_agrees : (p : ℕ) (k : LoadedUser) (u : User) → Was (with_life Running) (relived.life_again Running) old.users ids p k → Was state_of.runs_again (λ x. refl) (with_user state.users id (Some user')) kept.attached p u
+        each_agrees : (p : ℕ) (k : LoadedUser) (u : User) → Was (with_life Running) (relived.life_again Running) old.users ids p k → Was words.runs_again (λ x. refl) (with_user state.users id (Some user')) kept.attached p u
             → UserAgrees held new.memory (far_in new (first_id + p)) (first_id + p) k u
         each_agrees p k u w v = elim (cases_eq p place) [
           | inl eq ↦
               let inside = slice_get_within state.users place (Some is.user) state_users in
               let mid : v.was ≡ user' = user_one v.was user' (sym v.made ∙ ap (slice_get (slice_set state.users place (Some user'))) eq ∙ set_at state.users place (Some user') inside) in
-              let user_same : u ≡ user' = elim v.is [ inl l ↦ l.1 ∙ ap state_of.runs_again mid | inr l ↦ l.1 ∙ mid ] in
+              let user_same : u ≡ user' = elim v.is [ inl l ↦ l.1 ∙ ap words.runs_again mid | inr l ↦ l.1 ∙ mid ] in
               let was : w.was ≡ kept = kept_one w.was kept (sym w.made ∙ ap (slice_get old.users) eq ∙ its_users.0) in
               let k_same : k ≡ runs = elim w.is [
                 | inl l ↦ l.1 ∙ ap (with_life Running) was
@@ -690,12 +691,12 @@ module _ (old new : Loaded) (id : ℕ) (kept : LoadedUser) (started : Started) (
                 | inl inside ↦ elim (which p w.was w.made inside.0) [
                   | inl here ↦ absurd (ne here.0)
                   | inr row ↦
-                      let user_same : u ≡ state_of.runs_again v.was = elim v.is [
+                      let user_same : u ≡ words.runs_again v.was = elim v.is [
                         | inl l ↦ l.1
                         | inr l ↦ (let clash : true ≡ false = sym (in_row kept.attached row.0 (first_id + p) row.1) ∙ l.0 in absurd cc)
                       ] in
                       subst (λ (x : User). UserAgrees held new.memory (far_in new (first_id + p)) (first_id + p) k x) (sym user_same)
-                      (subst (λ (x : LoadedUser). UserAgrees held new.memory (far_in new (first_id + p)) (first_id + p) x (state_of.runs_again v.was)) (sym inside.1) (row_agrees p w.was v.was w.made ne row.2 before))
+                      (subst (λ (x : LoadedUser). UserAgrees held new.memory (far_in new (first_id + p)) (first_id + p) x (words.runs_again v.was)) (sym inside.1) (row_agrees p w.was v.was w.made ne row.2 before))
                 ]
                 | inr outside ↦
                     let user_same : u ≡ v.was = elim v.is [
@@ -711,7 +712,7 @@ module _ (old new : Loaded) (id : ℕ) (kept : LoadedUser) (started : Started) (
     next = record {
       banks = state.banks;
       slots = changed_all active_block state.slots (static_handles (map head_of (kept_is held old state agrees id kept made).does_agree.segments) (handles_of (kept_is held old state agrees id kept made).user) 1);
-      users = with_all state_of.runs_again (with_user state.users id (Some (record (kept_is held old state agrees id kept made).user { life = Running; segments = read_again (map head_of (kept_is held old state agrees id kept made).does_agree.segments) (kept_is held old state agrees id kept made).user.segments })))
+      users = with_all words.runs_again (with_user state.users id (Some (record (kept_is held old state agrees id kept made).user { life = Running; segments = read_again (map head_of (kept_is held old state agrees id kept made).does_agree.segments) (kept_is held old state agrees id kept made).user.segments })))
           (kept_is held old state agrees id kept made).user.attached;
     }
 

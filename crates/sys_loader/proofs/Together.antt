@@ -6,7 +6,8 @@ use Rattle.std.proofs.lemmas.Option.{same_Some, slice_get_within}
 use Rattle.std.proofs.lemmas.Bool.{cases_eq}
 use Rattle.std.proofs.lemmas.List.Concat.{flat_map-cons}
 use Rattle.iigs_meaning.specs.declared.handles.Handle.{Handle}
-use Rattle.loader_machine.specs.State.{first_id, user_of, with_user, with_all, handles_in, handles_of_all}
+use Rattle.loader_machine.specs.State.{first_id, user_of, with_user, with_all, handles_in}
+use Rattle.loader_machine.specs.laws.Words.{handles_of_all}
 use Rattle.loader_machine.specs.Presences.{handle_at}
 use Rattle.loader_agrees.specs.Agrees.{LoadedUser, outline, kept_outlines}
 use Rattle.loader_agrees.specs.laws.Lists.{set_map, set_at, set_apart, length_set}

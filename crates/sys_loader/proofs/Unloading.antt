@@ -13,9 +13,10 @@ use Rattle.loader_machine.specs.declared.faults.LoaderFault.TheVariants.{Static,
 use Rattle.loader_machine.specs.declared.seen.SegmentHead.{SegmentHead}
 use Rattle.loader_machine.specs.State.{UserSeen, Machine, user_of, handles_of, led_by}
 use Rattle.loader_machine.specs.Presences.{handle_at, presence, there_at, active_at, is_active, lies_at}
+use Rattle.loader_machine.specs.laws.Words.{with_segment_idle}
 use Rattle.loader_machine.specs.Refusals.{Refuse, of_user, of_running, of_segment, of_dynamic, of_active, unload_refusal}
 use Rattle.loader_machine.specs.Commands.{Okay, Refused, UnloadSegment}
-use Rattle.loader_machine.specs.Steps.{with_block_changed, with_segment_idle, idle_block, with_slots}
+use Rattle.loader_machine.specs.Steps.{with_block_changed, idle_block, with_slots}
 use Rattle.loader_agrees.specs.Agrees.{LoadedUser, Loaded, Outline, kept_outlines, seen_by, Agrees, Has, IsSound, Met}
 use Rattle.loader_agrees.specs.Checks.{PassesRunning, StopsRunning, PassesSegment, StopsSegment}
 use Rattle.loader_agrees.specs.laws.Checking.{active_none, active_passes}
@@ -139,7 +140,7 @@ roomy old place kept sound made = record {
 }
   where
     at_block : (slots : Slots) (h : Handle) (block : Block) → Rattle.iigs_meaning.specs.Slots.get slots h ≡ Some block → IsSome (there_at (presence slots (Some h))) → IsSome block.at
-    at_block slots h block is there = go block.at block.locked (subst (λ (o : Option Block). IsSome (there_at (Rattle.loader_machine.specs.Presences.lies_in h o))) is there)
+    at_block slots h block is there = go block.at block.locked (subst (λ (o : Option Block). IsSome (there_at (Rattle.loader_machine.specs.laws.Words.lies_in h o))) is there)
       where
         go : (at : Option ℕ) (locked : Bool) → IsSome (there_at (lies_at h at locked)) → IsSome at
         go None locked e = absurd cc

@@ -1,16 +1,17 @@
 -- What calls on the segments of users do, whatever files there are.
-use Rattle.std.specs.Prelude.{◌≡◌, ℕ, ◌+◌, ◌≤◌, Bool, true, false, List, [], length, Option, Some, None, slice_set, Result, Ok, Err}
+use Rattle.std.specs.Prelude.{◌≡◌, ℕ, ◌+◌, ◌≤◌, Bool, true, false, List, [], ◌∷◌, ◌++◌, length, Option, Some, None, slice_set, Result, Ok, Err}
 use Rattle.omf_format.specs.Header.{is_dynamic}
 use Rattle.iigs_meaning.specs.declared.handles.Handle.{Handle}
 use Rattle.iigs_meaning.specs.declared.wants.Block.{Block}
 use Rattle.iigs_meaning.specs.Memory.{Memory, KeepsBut, IsPurged, bytes_at}
+use Rattle.std.specs.List.{flat_map}
 use Rattle.loader_machine.specs.declared.faults.LoaderFault.{LoaderFault}
 use Rattle.loader_machine.specs.Heads.{is_table}
 use Rattle.loader_machine.specs.Refusals.{purge_refusal, poke_refusal, unload_refusal, shut_down_refusal}
 use Rattle.loader_machine.specs.Commands.{Reply, Counted, Refused}
 use Rattle.loader_machine.specs.declared.seen.Life.TheVariants.{Running, Dormant}
-use Rattle.loader_machine.specs.State.{user_of, led_by, is_attached, family, handles_of_all, with_all, without_all}
-use Rattle.loader_machine.specs.Steps.{idle_block, let_go, changed_all, without_users}
+use Rattle.loader_machine.specs.State.{user_of, handles_in, led_by, is_attached, with_all, without_all}
+use Rattle.loader_machine.specs.Steps.{idle_block, changed_all, without_users, let_go}
 use Rattle.loader_agrees.specs.Agrees.{LoadedUser, Loaded, kept_outlines, seen_by}
 use Rattle.loader_agrees.specs.Acts.{IsActive}
 use Rattle.loader_users.specs.Renewing.{AreRenewed}
@@ -91,8 +92,8 @@ pub record AreReleased (ids : List ℕ) (old new : Memory) : Type 0 where
 pub record HasDropped (old : Loaded) (id : ℕ) (new : Loaded) : Type 0 where
   pub kept : LoadedUser
   pub made : user_of old.users id ≡ Some kept
-  pub released : AreReleased (family id kept.attached) old.memory new.memory
-  pub users : new.users ≡ without_all old.users (family id kept.attached)
+  pub released : AreReleased (kept.attached ++ id ∷ []) old.memory new.memory
+  pub users : new.users ≡ without_all old.users (kept.attached ++ id ∷ [])
 
 -- the active ones of these segments are idle, and nothing is written
 pub record AreIdled (handles : List (Option Handle)) (old new : Memory) : Type 0 where
@@ -106,8 +107,8 @@ pub record HasKept (old : Loaded) (id : ℕ) (new : Loaded) : Type 0 where
   pub runs : kept.life ≡ Running
   pub middle : Memory
   pub renewed : AreRenewed kept.heads kept.handles None None old.memory middle (length kept.heads)
-  pub idled : AreIdled (handles_of_all (kept_outlines old.users) (family id kept.attached)) middle new.memory
-  pub users : new.users ≡ with_all (with_life Dormant) old.users (family id kept.attached)
+  pub idled : AreIdled (flat_map (handles_in (kept_outlines old.users)) (kept.attached ++ id ∷ [])) middle new.memory
+  pub users : new.users ≡ with_all (with_life Dormant) old.users (kept.attached ++ id ∷ [])
 
 -- what a shutdown did: the user is kept or dropped, or the call is refused and all stays
 abbrev pub DidShutDown : Loaded → ℕ → Bool → Result (Unit {0}) LoaderFault → Loaded → Type 0

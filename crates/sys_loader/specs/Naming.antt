@@ -6,10 +6,10 @@ use Rattle.omf_format.specs.File.{Segment, segment_at}
 use Rattle.omf_io.specs.Files.{FileMap}
 use Rattle.load_meaning.specs.Cells.{Part, cells}
 use Rattle.loader_machine.specs.declared.seen.Life.TheVariants.{Running}
-use Rattle.loader_machine.specs.State.{Machine, handles_of, held_at}
+use Rattle.loader_machine.specs.State.{Machine, handles_of, held_at, outlines}
 use Rattle.loader_machine.specs.Presences.{presence_at, is_active}
-use Rattle.loader_machine.specs.Stands.{place_in, stands}
-use Rattle.loader_machine.specs.Steps.{Sees, setting_in}
+use Rattle.loader_machine.specs.Stands.{place_in, stands, setting_with, far_of}
+use Rattle.loader_machine.specs.Steps.{Sees}
 use Rattle.sys_loader.specs.declared.answers.Entered.{Entered}
 
 -- Three neighbouring cells of an active segment of a user that runs are the three bytes of a target's place plus an offset, the
@@ -29,7 +29,7 @@ pub record HasAddress (held : FileMap) (state : Machine) (id number at target of
 -- the number in the three bytes as they are in memory
 abbrev pub address_read : {held : FileMap} {state : Machine} {id number at target offset : ℕ} → HasAddress held state id number at target offset → ℕ
 address_read {state = state} {id = id} {number = number} {at = at} has =
-    number_at 3 at (stands (setting_in state id has.sees.user) (held_at has.sees.user number).pokes has.s)
+    number_at 3 at (stands (setting_with (far_of state.slots (outlines state.users) id) id state.slots (handles_of has.sees.user)) (held_at has.sees.user number).pokes has.s)
 
 -- where the address is what three such bytes say, it is the place of their target plus the offset, and this is found there
 abbrev pub NamesPlace : FileMap → Machine → ℕ → Option Entered → Type 0

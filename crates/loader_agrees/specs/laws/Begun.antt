@@ -30,8 +30,9 @@ use Rattle.loader_machine.specs.State.{HeldSegment, User, absent, no_pokes, firs
 use Rattle.loader_machine.specs.Presences.{handle_at, presence, presence_at, there_at, is_active}
 use Rattle.loader_machine.specs.Found.{HoldsLoad}
 use Rattle.loader_machine.specs.Refusals.{load_refusal}
-use Rattle.loader_machine.specs.Steps.{held_of_heads, started_user}
-use Rattle.loader_machine.specs.Stands.{Far, no_far_segment, setting, setting_with, target_with}
+use Rattle.loader_machine.specs.Steps.{held_of_heads}
+use Rattle.loader_machine.specs.laws.Words.{started_user, no_far_segment, target_with}
+use Rattle.loader_machine.specs.Stands.{Far, setting, setting_with}
 use Rattle.loader_machine.specs.laws.StandsLaws.{AreAlike, stands_alike}
 use Rattle.load_meaning.specs.laws.CellLaws.{loadable_has}
 use Rattle.loader_agrees.specs.Agrees.{LoadedUser, Loaded, UserAgrees, IsSound}

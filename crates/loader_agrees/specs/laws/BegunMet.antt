@@ -13,7 +13,8 @@ use Rattle.loader_machine.specs.State.{User, Machine, first_id, max_users, ids_f
 use Rattle.loader_machine.specs.Found.{HoldsLoad, Good, Joins, AreJoined}
 use Rattle.loader_machine.specs.Commands.{Started, Load}
 use Rattle.loader_machine.specs.Refusals.{rows_refusal}
-use Rattle.loader_machine.specs.Steps.{PutIn, Begins, LoadsFound, Steps, lost_refusal, begun_users, started_user, joined_users}
+use Rattle.loader_machine.specs.Steps.{PutIn, Begins, Steps, lost_refusal, joined_users}
+use Rattle.loader_machine.specs.laws.Words.{started_user, LoadsFound, begun_users}
 use Rattle.loader_agrees.specs.Agrees.{Loaded, outline, Agrees, IsSound, Met}
 use Rattle.loader_agrees.specs.Acts.{HasBegun}
 use Rattle.loader_agrees.specs.laws.Begun.{may_load}

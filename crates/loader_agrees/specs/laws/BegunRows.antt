@@ -17,9 +17,11 @@ use Rattle.loader_machine.specs.State.{User, Machine, Outline, absent, first_id,
 use Rattle.loader_machine.specs.Presences.{presence, presence_at, active_at}
 use Rattle.loader_machine.specs.Stands.{Far, far_of}
 use Rattle.loader_machine.specs.Found.{HoldsLoad}
-use Rattle.loader_machine.specs.Steps.{started_user, joined_user, joined_users}
+use Rattle.loader_machine.specs.Steps.{joined_users}
+use Rattle.loader_machine.specs.laws.Words.{started_user, joined_user}
 use Rattle.loader_machine.specs.laws.OnceLaws.{one_load}
-use Rattle.loader_agrees.specs.Agrees.{LoadedUser, Loaded, outline, kept_outlines, AreAttached, LeadsFar, EntriesLead, UserAgrees, Agrees, IsSound}
+use Rattle.loader_agrees.specs.Agrees.{LoadedUser, Loaded, outline, kept_outlines, AreAttached, LeadsFar, UserAgrees, Agrees, IsSound}
+use Rattle.loader_agrees.specs.laws.Words.{EntriesLead}
 use Rattle.loader_agrees.specs.Acts.{HasPlaced, started_kept, joined_kept, joined_kepts}
 use Rattle.loader_agrees.specs.laws.Begun.{user_agrees, others_agree, begun_keeps}
 use Rattle.loader_agrees.specs.laws.Joining.{user_stays}

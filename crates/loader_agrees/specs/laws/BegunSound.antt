@@ -15,7 +15,8 @@ use Rattle.loader_machine.specs.Rule.{RoomRule}
 use Rattle.iigs_meaning.specs.Memory.{bytes_at}
 use Rattle.loader_machine.specs.declared.seen.SegmentHead.{SegmentHead}
 use Rattle.loader_machine.specs.declared.seen.Life.TheVariants.{Running, Dormant}
-use Rattle.loader_machine.specs.Heads.{head_of, at_number, is_static, is_stack, is_table, stack_want, plain_want, want_of, wants_of}
+use Rattle.loader_machine.specs.Heads.{head_of, at_number, is_static, is_table, want_of, wants_of}
+use Rattle.loader_machine.specs.laws.Words.{is_stack}
 use Rattle.loader_machine.specs.State.{HeldSegment, first_id}
 use Rattle.loader_machine.specs.Presences.{handle_at, presence, presence_at, is_active}
 use Rattle.loader_machine.specs.Steps.{held_of_heads}
@@ -179,7 +180,7 @@ spread_has (g ∷ heads) (x ∷ hs) long (suc i) h is = elim (decide (is_static 
 
 -- a want has room for LENGTH bytes
 pub want_size : (head : SegmentHead) → head.length ≤ (want_of head).size
-unfolding want_of stack_want plain_want
+unfolding want_of
 want_size head = elim (decide (is_stack head)) [ inl stack ↦ rw stack (grind arith) | inr plain ↦ rw plain (grind arith) ]
 
 -- ---- users

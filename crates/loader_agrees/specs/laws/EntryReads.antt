@@ -18,7 +18,8 @@ use Rattle.load_meaning.specs.laws.CellLaws.{loadable_has}
 use Rattle.loader_machine.specs.declared.seen.SegmentHead.{SegmentHead}
 use Rattle.loader_machine.specs.Heads.{head_of, at_number}
 use Rattle.loader_machine.specs.State.{no_pokes, user_of, named_by}
-use Rattle.loader_machine.specs.Stands.{AddressSetting, entry_for, entries_bytes, read_bytes, stands}
+use Rattle.loader_machine.specs.Stands.{AddressSetting, stands}
+use Rattle.loader_machine.specs.laws.Words.{entry_for, entries_bytes, read_bytes}
 use Rattle.loader_machine.specs.laws.PokeLaws.{over_none}
 use Rattle.loader_agrees.specs.Agrees.{LoadedUser, kept_outlines, IsCall}
 use Rattle.loader_agrees.specs.laws.EntryBytes.{file_is, segment_is, offset_is}
@@ -66,7 +67,7 @@ module _ (at : AddressSetting) (targets : List Target) (bytes : List ℕ) (front
 -- ---- a table of a load file
 
 pub table_stands : (s : Segment) (at : AddressSetting) → is_table s ≡ true → stands at no_pokes s ≡ table_bytes (map (entry_for at) (targets_of s))
-unfolding stands read_bytes entries_bytes
+unfolding stands
 table_stands s at table = over_none (read_bytes at s) ∙ ap (λ (t : Bool). cond t (entries_bytes at (targets_of s)) (map (byte_of at.place) (cells s))) table
 
 pub targets_count : (s : Segment) → length (targets_of s) ≡ entry_count s.fields.length

@@ -5,7 +5,8 @@ use Rattle.load_meaning.specs.Cells as load
 use Rattle.load_meaning.specs.Cells.{Cell, Byte, Part, byte_of, cells}
 use Rattle.load_meaning.specs.LoadTable.{is_table, targets_of}
 use Rattle.loader_machine.specs.State.{no_pokes}
-use Rattle.loader_machine.specs.Stands.{AddressSetting, entries_bytes, read_bytes, stands}
+use Rattle.loader_machine.specs.Stands.{AddressSetting, stands}
+use Rattle.loader_machine.specs.laws.Words.{entries_bytes, read_bytes}
 use Rattle.loader_machine.specs.laws.PokeLaws.{over_none}
 
 byte_same : (p q : ℕ → ℕ) → ((n : ℕ) → p n ≡ q n) → (c : Cell) → byte_of p c ≡ byte_of q c
@@ -18,7 +19,7 @@ map_same p q same (c ∷ cs) = cc (byte_same p q same c, map_same p q same cs)
 
 -- the content that a file gives a segment at these addresses is its content in memory, where it is no table and has no pokes
 pub plain_stands : (at : AddressSetting) (s : Segment) (places : ℕ → ℕ) → is_table s ≡ false → ((n : ℕ) → places n ≡ at.place n) → stands at no_pokes s ≡ load.stands places s
-unfolding stands read_bytes
+unfolding stands
 plain_stands at s places plain same =
     over_none (read_bytes at s) ∙ ap (λ (t : Bool). cond t (entries_bytes at (targets_of s)) (map (byte_of at.place) (cells s))) plain
     ∙ sym (map_same places at.place same (cells s))

@@ -9,11 +9,13 @@ use Rattle.iigs_meaning.specs.Placement.{can_purge}
 use Rattle.iigs_meaning.specs.Memory.{Memory, bytes_at}
 use Rattle.loader_machine.specs.declared.seen.Presence.{Presence}
 use Rattle.loader_machine.specs.State.{User, held_at}
-use Rattle.loader_machine.specs.Presences.{handle_at, presence, presence_at, lies_in, lies_at, there_at, active_at, is_active}
-use Rattle.loader_machine.specs.Stands.{Far, setting_with, target_with}
+use Rattle.loader_machine.specs.Presences.{handle_at, presence, presence_at, there_at, active_at, is_active, lies_in, lies_at}
+use Rattle.loader_machine.specs.laws.Words.{target_with}
+use Rattle.loader_machine.specs.Stands.{Far, setting_with}
 use Rattle.loader_machine.specs.laws.StandsLaws.{AreAlike, stands_alike}
 use Rattle.load_meaning.specs.laws.CellLaws.{loadable_has}
-use Rattle.loader_agrees.specs.Agrees.{LoadedUser, AreThere, UserAgrees}
+use Rattle.loader_agrees.specs.Agrees.{LoadedUser, UserAgrees}
+use Rattle.loader_agrees.specs.laws.Words.{AreThere}
 
 -- the handle's block is as before, and so are its bytes if it is there; or it was purgeable, and is empty now
 pub data Keeps (old new : Memory) (h : Handle) : Type 0 where

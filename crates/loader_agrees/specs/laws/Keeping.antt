@@ -17,7 +17,8 @@ use Rattle.loader_machine.specs.Stands.{far_of}
 use Rattle.loader_machine.specs.State.{Machine, first_id, user_of, attached_at, handles_in}
 use Rattle.loader_machine.specs.Presences.{handle_at, presence, presence_at, there_at, active_at, is_active, lies_in, lies_at}
 use Rattle.loader_machine.specs.Steps.{with_slots}
-use Rattle.loader_agrees.specs.Agrees.{LoadedUser, Loaded, Outline, outline, kept_outlines, far_in, AreAttached, EntriesLead, IsCall, Agrees, IsOf, Has, IsSegments, IsSound}
+use Rattle.loader_agrees.specs.Agrees.{LoadedUser, Loaded, Outline, outline, kept_outlines, AreAttached, IsCall, Agrees, IsOf, Has, IsSegments, IsSound}
+use Rattle.loader_agrees.specs.laws.Words.{far_in, EntriesLead}
 use Rattle.loader_agrees.specs.laws.Frame.{Keeps, Same, Gone, AreKept, was_active, not_active_still, target_stays, agrees_still}
 use Rattle.loader_agrees.specs.laws.Seeing.{has_any, user_is, made_at}
 

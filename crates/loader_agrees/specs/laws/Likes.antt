@@ -10,7 +10,8 @@ use Rattle.loader_machine.specs.declared.seen.Life.{Life}
 use Rattle.loader_machine.specs.Heads.{at_number}
 use Rattle.loader_machine.specs.State.{Outline, first_id, user_of, attached_at, named_by}
 use Rattle.loader_machine.specs.Found.{HoldsLoad}
-use Rattle.loader_agrees.specs.Agrees.{LoadedUser, outline, kept_outlines, IsJoined, AreAttached, LeadsFar, EntriesLead, IsCall}
+use Rattle.loader_agrees.specs.Agrees.{LoadedUser, outline, kept_outlines, IsJoined, AreAttached, LeadsFar, IsCall}
+use Rattle.loader_agrees.specs.laws.Words.{EntriesLead}
 use Rattle.loader_agrees.specs.laws.RowUsers.{user_there}
 use Rattle.loader_agrees.specs.laws.Seeing.{user_is, made_at}
 

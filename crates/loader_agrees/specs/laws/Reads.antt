@@ -24,9 +24,11 @@ use Rattle.loader_machine.specs.laws.StandsLaws.{stands_long}
 use Rattle.loader_machine.specs.Found.{HoldsLoad}
 use Rattle.loader_machine.specs.Commands.{Bytes, Info, Where, Shown, SegmentIs, Refused}
 use Rattle.loader_machine.specs.Refusals.{bytes_refusal, info_refusal}
-use Rattle.loader_machine.specs.Steps.{Sees, StandsIn, IsAt, Nowhere, In, place_reply}
+use Rattle.loader_machine.specs.Steps.{Sees, StandsIn, IsAt, Nowhere, In}
+use Rattle.loader_machine.specs.laws.Words.{place_reply}
 use Rattle.loader_machine.specs.laws.OnceLaws.{active_is, one_load}
-use Rattle.loader_agrees.specs.Agrees.{LoadedUser, Loaded, Outline, outlines, kept_outlines, far_in, seen_by, AreThere, UserAgrees, Agrees, IsSound, Met}
+use Rattle.loader_agrees.specs.Agrees.{LoadedUser, Loaded, Outline, outlines, kept_outlines, seen_by, UserAgrees, Agrees, IsSound, Met}
+use Rattle.loader_agrees.specs.laws.Words.{far_in, AreThere}
 use Rattle.loader_agrees.specs.Acts.{IsActive, HasBorrowed, HasReported, LiesIn}
 use Rattle.loader_agrees.specs.laws.Lists.{number_map}
 use Rattle.loader_agrees.specs.laws.Seeing.{IsKept, kept_is, refuses, does}

@@ -14,7 +14,8 @@ use Rattle.loader_machine.specs.Heads.{head_of}
 use Rattle.loader_machine.specs.Heads.{is_table as is_table_head}
 use Rattle.loader_machine.specs.State.{HeldSegment, Outline, absent, first_id, user_of, attached_at, ids_from, outline_of}
 use Rattle.loader_machine.specs.Presences.{handle_at}
-use Rattle.loader_machine.specs.Steps.{joined_user, joined_users}
+use Rattle.loader_machine.specs.Steps.{joined_users}
+use Rattle.loader_machine.specs.laws.Words.{joined_user}
 use Rattle.loader_agrees.specs.Agrees.{LoadedUser, outline, kept_outlines, IsJoined, AreAttached}
 use Rattle.loader_agrees.specs.Acts.{no_handle_of, joined_kept, joined_kepts}
 use Rattle.loader_agrees.specs.laws.Joining.{user_stays}

@@ -22,8 +22,9 @@ use Rattle.load_meaning.specs.laws.CellLaws.{loadable_has}
 use Rattle.loader_machine.specs.declared.seen.SegmentHead.{SegmentHead}
 use Rattle.loader_machine.specs.declared.faults.LoaderFault.TheVariants.{BadFile}
 use Rattle.loader_machine.specs.Heads.{head_of, at_number}
-use Rattle.loader_machine.specs.Found.{HoldsLoad, HoldsRuntime, FileFound, Unread, Bad, Good, IsRowFound, Joined, Stops, Joins, JoinsFound, AreJoined, joined_after}
-use Rattle.loader_machine.specs.Steps.{is_reached, lost_from, lost_in, lost_refusal}
+use Rattle.loader_machine.specs.Found.{HoldsLoad, HoldsRuntime, FileFound, Unread, Bad, Good, Joined, Stops, Joins, AreJoined, joined_after}
+use Rattle.loader_machine.specs.laws.Words.{IsRowFound, JoinsFound, is_reached}
+use Rattle.loader_machine.specs.Steps.{lost_from, lost_in, lost_refusal}
 use Rattle.loader_agrees.specs.laws.Begun.{decide}
 use Rattle.loader_agrees.specs.laws.RowUsers.{IsRow, AreCalled}
 

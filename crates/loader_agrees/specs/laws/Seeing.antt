@@ -22,7 +22,8 @@ use Rattle.loader_machine.specs.Refusals.{Refuse}
 use Rattle.loader_machine.specs.Steps as steps
 use Rattle.loader_machine.specs.Commands.{Reply, Refused}
 use Rattle.loader_machine.specs.Steps.{IsSeen, Does}
-use Rattle.loader_agrees.specs.Agrees.{LoadedUser, Loaded, Outline, outline, outline_of, far_in, seen_in, seen_by, UserAgrees, Agrees, IsOf, Has, IsSound}
+use Rattle.loader_agrees.specs.Agrees.{LoadedUser, Loaded, Outline, outline, outline_of, seen_in, seen_by, UserAgrees, Agrees, IsOf, Has, IsSound}
+use Rattle.loader_agrees.specs.laws.Words.{far_in}
 use Rattle.loader_agrees.specs.Acts.{IsActive}
 
 -- ---- users by ID

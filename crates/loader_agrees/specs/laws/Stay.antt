@@ -22,7 +22,7 @@ use Rattle.iigs_meaning.specs.laws.Left.{IsLeft, AreLeft}
 use Rattle.iigs_meaning.specs.laws.SlideRoomLaws.{are_left}
 use Rattle.iigs_meaning.specs.laws.Left.IsLeft.{Unmoved, Emptied, Shifted}
 use Rattle.iigs_meaning.specs.Memory.{Memory, IsThere, AreAllPlaced}
-use Rattle.loader_machine.specs.Presences.{presence, lies_in, lies_at, there_at}
+use Rattle.loader_machine.specs.Presences.{presence, there_at, lies_in, lies_at}
 use Rattle.loader_agrees.specs.laws.Frame.{Keeps, Same, Gone}
 
 -- a live handle's block that isn't movable is as it was, or it was purgeable and is empty

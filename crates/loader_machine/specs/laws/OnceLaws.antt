@@ -23,12 +23,12 @@ use Rattle.iigs_meaning.specs.laws.SlideLaws.{slides_once}
 use Rattle.loader_machine.specs.Heads.{SegmentHead, head_of, is_table, want_of, wants_of}
 use Rattle.loader_machine.specs.State.{User, Machine, UserSeen, fresh, held_at, first_id, user_of, handles_of}
 use Rattle.loader_machine.specs.Presences.{Presence, Absent, Purged, Idle, Active, presence, presence_at, handle_at, lies_in, lies_at}
+use Rattle.loader_machine.specs.laws.Words.{is_locked, level_in, is_movable, IsRowFound, JoinsFound, Lands, LoadsJoined, LoadsFound, begun_users, again_users, ComesAnew, ComesFirst, Activates, Answers, place_reply, EntersEntry, EntersSegment, Enters, RestartsInPlace, alloc_want, setting_in}
 use Rattle.loader_machine.specs.Stands.{stands}
-use Rattle.loader_machine.specs.Alloc.{alloc_want, is_locked, level_in, is_movable}
-use Rattle.loader_machine.specs.Found.{HoldsFile, HoldsLoad, HoldsFault, HoldsRuntime, HoldsRuntimeFault, FileFound, Unread, Bad, Good, IsFound, IsRowFound, Joined, Stops, Joins, JoinsFound, AreJoined, joined_after}
+use Rattle.loader_machine.specs.Found.{HoldsFile, HoldsLoad, HoldsFault, HoldsRuntime, HoldsRuntimeFault, FileFound, Unread, Bad, Good, IsFound, Joined, Stops, Joins, AreJoined, joined_after}
 use Rattle.loader_machine.specs.Commands.{Command, Banks, Load, LoadSegment, UnloadSegment, Jsl, ShutDown, Restart, Purge, Poke, Bytes, Where, Info, Alloc, Free, Lock, Unlock, Level, StateOf, Room, Compact, Reply, Entered, Shown, SegmentIs, Placed, BlockIs, RoomIs, Moved}
 use Rattle.loader_machine.specs.Refusals.{Refuse, load_refusal, rows_refusal, purge_refusal, free_refusal, change_refusal, state_refusal}
-use Rattle.loader_machine.specs.Steps.{seen_of, Sees, IsSeen, Decides, Does, Either, with_slots, with_both, with_segment, active_block, with_block_changed, Put, NoSlots, Lacks, PutIn, Lands, Begins, lost_refusal, LoadsJoined, LoadsFound, StepsLoad, begun_users, again_users, setting_in, Activation, OutOfSlots, OutOfRoom, Made, ComesAnew, ComesFirst, Activates, Answers, MakesActive, StandsIn, IsAt, AddressPlace, Nowhere, In, IsLocated, place_reply, EntersEntry, EntersSegment, Enters, target_at_code, address_of, no_jsl, StepsJsl, StepsShutDown, are_there, RestartsInPlace, StepsRestart, StepsAlloc, StepsChange, Steps}
+use Rattle.loader_machine.specs.Steps.{seen_of, Sees, IsSeen, Decides, Does, Either, with_slots, with_both, with_segment, active_block, with_block_changed, Put, NoSlots, Lacks, PutIn, Begins, lost_refusal, StepsLoad, Activation, OutOfSlots, OutOfRoom, Made, MakesActive, StandsIn, IsAt, AddressPlace, Nowhere, In, IsLocated, target_at_code, address_of, no_jsl, StepsJsl, StepsShutDown, are_there, StepsRestart, StepsAlloc, StepsChange, Steps}
 use Rattle.loader_machine.specs.Steps.StepsAlloc.{IsPlaced, HasNoHandle, HasNoRoom}
 use Rattle.loader_machine.specs.laws.PutLaws.{counts_once, puts_once, anew_once, put_once}
 

@@ -9,7 +9,8 @@ use Rattle.std.proofs.lemmas.List.{set-append_left}
 use Rattle.omf_format.specs.File.{Segment}
 use Rattle.omf_io.specs.Counts.{IsFront}
 use Rattle.loader_machine.specs.State.{Pokes, no_pokes}
-use Rattle.loader_machine.specs.Stands.{AddressSetting, over_from, with_pokes, read_bytes, stands}
+use Rattle.loader_machine.specs.Stands.{AddressSetting, over_from, stands}
+use Rattle.loader_machine.specs.laws.Words.{with_pokes, read_bytes}
 
 poked : (pokes : Pokes) (k b q : ℕ) → get (insert pokes k b) q ≡ cond (q == k) (Some b) (get pokes q)
 poked pokes k b q = get-insert nat_cmp_total pokes k b q ∙ ap (λ (t : Bool). cond t (Some b) (get pokes q)) (unsigned_tied q k)
@@ -35,7 +36,6 @@ from_set at j (suc k) b pokes (x ∷ bytes) is =
 
 -- the bytes with one poke more are those with that byte set
 pub over_set : (pokes : Pokes) (bytes : List ℕ) (k b : ℕ) → with_pokes (insert pokes k b) bytes ≡ slice_set (with_pokes pokes bytes) k b
-unfolding with_pokes
 over_set pokes bytes k b = from_set 0 k k b pokes bytes (omega arith)
 
 pub stands_set : (at : AddressSetting) (s : Segment) (pokes : Pokes) (k b : ℕ) → stands at (insert pokes k b) s ≡ slice_set (stands at pokes s) k b
@@ -55,7 +55,6 @@ length_from at pokes [] = refl
 length_from at pokes (x ∷ bytes) = ap (λ (n : ℕ). suc n) (length_from (at + 1) pokes bytes)
 
 pub length_over : (pokes : Pokes) (bytes : List ℕ) → length (with_pokes pokes bytes) ≡ length bytes
-unfolding with_pokes
 length_over pokes bytes = length_from 0 pokes bytes
 
 none_from : (at : ℕ) (bytes : List ℕ) → over_from at no_pokes bytes ≡ bytes
@@ -64,5 +63,4 @@ none_from at (x ∷ bytes) = cc (get-empty nat_cmp at, none_from (at + 1) bytes)
 
 -- without pokes it is the bytes themselves
 pub over_none : (bytes : List ℕ) → with_pokes no_pokes bytes ≡ bytes
-unfolding with_pokes
 over_none bytes = none_from 0 bytes

@@ -11,7 +11,8 @@ use Rattle.iigs_meaning.specs.Fits.{Slots}
 use Rattle.iigs_meaning.specs.Puts.{MakesRoom, LacksRoom, IsOnce, Puts, PutsAnew, PutsAll, LacksRoomAt, placed_block}
 use Rattle.iigs_meaning.specs.Room.{CountsBelow}
 use Rattle.iigs_meaning.specs.Room.CountsBelow.{none, one_more, no_more}
-use Rattle.loader_machine.specs.Steps.{Put, NoSlots, Lacks, PutIn, IsPut}
+use Rattle.loader_machine.specs.Steps.{Put, NoSlots, Lacks, PutIn}
+use Rattle.loader_machine.specs.laws.Words.{IsPut}
 
 -- a property has one count
 pub counts_once : (P : ℕ → Type 0) (limit p q : ℕ) → CountsBelow P limit p → CountsBelow P limit q → p ≡ q

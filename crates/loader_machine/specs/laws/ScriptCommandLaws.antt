@@ -11,7 +11,8 @@ use Rattle.loader_machine.specs.declared.script.CommandName.TheVariants as names
 use Rattle.loader_machine.specs.Commands.{Command, Banks, Load, LoadSegment, UnloadSegment, Jsl, ShutDown, Restart, Purge, Poke, Bytes, Where, Info, Alloc, Free, Lock, Unlock, Level, StateOf, Room, Compact}
 use Rattle.iigs_meaning.specs.Banks.{AreDistinctTo}
 use Rattle.omf_format.specs.Lines.{lines_of}
-use Rattle.loader_machine.specs.Script.{written, line_command, Give, IsScript, IsHandle, IsCommand, AreCommands, is_number, number_of, is_word, stands_twice, banks_of, load_of, are_jsl_numbers, jsl_of, is_manner, shut_down_of, are_poke_numbers, poke_of, bytes_of, are_bytes_numbers, are_alloc_numbers, alloc_of, one_number, two_numbers, given_by, handle_of, room_of, compact_of, words_command, is_banks, is_in_turn, command_named, named_command, command_of, words_of, is_well_formed}
+use Rattle.loader_machine.specs.Script.{line_command, Give, IsScript, IsHandle, IsCommand, AreCommands, is_number, number_of, is_word, stands_twice, one_number, two_numbers, given_by, handle_of, words_command, is_banks, command_named, words_of}
+use Rattle.loader_machine.specs.laws.Words.{command_of, written, banks_of, load_of, are_jsl_numbers, jsl_of, is_manner, shut_down_of, are_poke_numbers, poke_of, bytes_of, are_bytes_numbers, are_alloc_numbers, alloc_of, room_of, compact_of, is_in_turn, named_command, is_well_formed}
 
 abbrev failed : ScriptCause → Result Command ScriptCause
 failed cause = Err cause
@@ -48,7 +49,6 @@ numbers_within (word ∷ words) h =
     ((number_within 0 0xFF word parts.0).1, numbers_within words parts.1)
 
 banks_keep : (words : List (List ℕ)) (command : Command) → banks_of words ≡ Ok command → IsCommand true command
-unfolding banks_of
 banks_keep words command e =
     let count = err_or _ _ _ command e in
     let numbers = err_or _ _ _ command count.1 in
@@ -62,7 +62,7 @@ banks_keep words command e =
     subst (IsCommand true) (same_ok (Ok (Banks (map number_of words))) (Banks (map number_of words)) command refl twice.1) keep
 
 load_keep : (words : List (List ℕ)) (command : Command) → list_all is_word words ≡ true → load_of words ≡ Ok command → IsCommand false command
-unfolding load_of is_word
+unfolding is_word
 load_keep [] command are e = let clash : failed WrongCount ≡ Ok command = e in absurd cc
 load_keep (path ∷ []) command are e =
     let word = (and_parts _ _ are).0 in
@@ -72,7 +72,6 @@ load_keep (path ∷ []) command are e =
 load_keep (path ∷ more ∷ words) command are e = let clash : failed WrongCount ≡ Ok command = e in absurd cc
 
 bytes_keep : (words : List (List ℕ)) (command : Command) → bytes_of words ≡ Ok command → IsCommand false command
-unfolding bytes_of
 bytes_keep [] command e = let clash : failed WrongCount ≡ Ok command = e in absurd cc
 bytes_keep (user ∷ []) command e = let clash : failed WrongCount ≡ Ok command = e in absurd cc
 bytes_keep (user ∷ segment ∷ []) command e = let clash : failed WrongCount ≡ Ok command = e in absurd cc
@@ -90,7 +89,6 @@ bytes_keep (user ∷ segment ∷ at ∷ size ∷ []) command e =
 bytes_keep (user ∷ segment ∷ at ∷ size ∷ more ∷ words) command e = let clash : failed WrongCount ≡ Ok command = e in absurd cc
 
 jsl_keep : (words : List (List ℕ)) (command : Command) → jsl_of words ≡ Ok command → IsCommand false command
-unfolding jsl_of
 jsl_keep [] command e = let clash : failed WrongCount ≡ Ok command = e in absurd cc
 jsl_keep (user ∷ []) command e = let clash : failed WrongCount ≡ Ok command = e in absurd cc
 jsl_keep (user ∷ segment ∷ []) command e = let clash : failed WrongCount ≡ Ok command = e in absurd cc
@@ -104,7 +102,6 @@ jsl_keep (user ∷ segment ∷ at ∷ []) command e =
 jsl_keep (user ∷ segment ∷ at ∷ more ∷ words) command e = let clash : failed WrongCount ≡ Ok command = e in absurd cc
 
 poke_keep : (words : List (List ℕ)) (command : Command) → poke_of words ≡ Ok command → IsCommand false command
-unfolding poke_of
 poke_keep [] command e = let clash : failed WrongCount ≡ Ok command = e in absurd cc
 poke_keep (user ∷ []) command e = let clash : failed WrongCount ≡ Ok command = e in absurd cc
 poke_keep (user ∷ segment ∷ []) command e = let clash : failed WrongCount ≡ Ok command = e in absurd cc
@@ -121,7 +118,6 @@ poke_keep (user ∷ segment ∷ at ∷ byte ∷ []) command e =
 poke_keep (user ∷ segment ∷ at ∷ byte ∷ more ∷ words) command e = let clash : failed WrongCount ≡ Ok command = e in absurd cc
 
 shut_down_keep : (words : List (List ℕ)) (command : Command) → shut_down_of words ≡ Ok command → IsCommand false command
-unfolding shut_down_of
 shut_down_keep [] command e = let clash : failed WrongCount ≡ Ok command = e in absurd cc
 shut_down_keep (user ∷ []) command e = let clash : failed WrongCount ≡ Ok command = e in absurd cc
 shut_down_keep (user ∷ manner ∷ []) command e =
@@ -171,7 +167,6 @@ handle_within : (n : ℕ) → n ≤ 0xFFFFFF → IsHandle (handle_of n)
 handle_within n le = (omega (arith, le), omega arith)
 
 alloc_keep : (words : List (List ℕ)) (command : Command) → alloc_of words ≡ Ok command → IsCommand false command
-unfolding alloc_of
 alloc_keep [] command e = let clash : failed WrongCount ≡ Ok command = e in absurd cc
 alloc_keep (size ∷ []) command e = let clash : failed WrongCount ≡ Ok command = e in absurd cc
 alloc_keep (size ∷ attributes ∷ []) command e = let clash : failed WrongCount ≡ Ok command = e in absurd cc
@@ -187,12 +182,10 @@ alloc_keep (size ∷ attributes ∷ address ∷ []) command e =
 alloc_keep (size ∷ attributes ∷ address ∷ more ∷ words) command e = let clash : failed WrongCount ≡ Ok command = e in absurd cc
 
 room_keep : (words : List (List ℕ)) (command : Command) → room_of words ≡ Ok command → IsCommand false command
-unfolding room_of
 room_keep [] command e = subst (IsCommand false) (same_ok (Ok Room) Room command refl e) refl
 room_keep (word ∷ words) command e = let clash : failed WrongCount ≡ Ok command = e in absurd cc
 
 compact_keep : (words : List (List ℕ)) (command : Command) → compact_of words ≡ Ok command → IsCommand false command
-unfolding compact_of
 compact_keep [] command e = subst (IsCommand false) (same_ok (Ok Compact) Compact command refl e) refl
 compact_keep (word ∷ words) command e = let clash : failed WrongCount ≡ Ok command = e in absurd cc
 
@@ -260,13 +253,12 @@ named_keeps is_first (Some name) words command are e =
 
 command_keeps : (is_first : Bool) (words : List (List ℕ)) (command : Command) → list_all is_word words ≡ true
     → command_of is_first words ≡ Ok command → IsCommand is_first command
-unfolding command_of
 command_keeps is_first [] command are e = let clash : failed UnknownCommand ≡ Ok command = e in absurd cc
 command_keeps is_first (name ∷ words) command are e =
     named_keeps is_first (command_named name) words command (and_parts (is_word name) (list_all is_word words) are).1 e
 
 line_keeps : (is_first : Bool) (line : List ℕ) (command : Command) → line_command is_first line ≡ Ok command → IsCommand is_first command
-unfolding line_command is_well_formed
+unfolding line_command
 line_keeps is_first line command e =
     let formed = or_err (is_well_formed line) BadWord (command_of is_first (words_of line)) command e in
     command_keeps is_first (words_of line) command (and_parts _ _ formed.0).1 formed.1

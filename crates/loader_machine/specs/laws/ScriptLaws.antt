@@ -7,7 +7,8 @@ use Rattle.std.proofs.lemmas.List.Sums.{length-filter, count_by-le-length}
 use Rattle.loader_machine.specs.declared.script.ScriptCause.{ScriptCause}
 use Rattle.loader_machine.specs.Commands.{Command}
 use Rattle.omf_format.specs.Lines.{lines_of}
-use Rattle.loader_machine.specs.Script.{is_skipped, written, line_command, Give, AreGood, is_start, most_lines, IsBad, OneTooMany, NoCommand, IsFirstBadLine, IsScript}
+use Rattle.loader_machine.specs.Script.{is_skipped, line_command, Give, AreGood, most_lines, IsBad, OneTooMany, NoCommand, IsFirstBadLine, IsScript, is_start}
+use Rattle.loader_machine.specs.laws.Words.{written}
 
 give_later : (lines : List (List ℕ)) (commands : List Command) (line : List ℕ) (command : Command) → Give false lines commands
     → line_command false line ≡ Ok command → Give false (lines ++ line ∷ []) (commands ++ command ∷ [])

@@ -18,7 +18,8 @@ use Rattle.load_meaning.specs.Loadable.{patch_list, IsPatch, IsTarget, IsSoundSe
 use Rattle.load_meaning.specs.laws.CellLaws.{length-cells, length-segment_bytes}
 use Rattle.loader_machine.specs.Heads.{head_of, is_static}
 use Rattle.loader_machine.specs.State.{Pokes}
-use Rattle.loader_machine.specs.Stands.{AddressSetting, entry_for, entries_bytes, with_pokes, read_bytes, stands}
+use Rattle.loader_machine.specs.Stands.{AddressSetting, stands}
+use Rattle.loader_machine.specs.laws.Words.{entry_for, entries_bytes, with_pokes, read_bytes}
 use Rattle.loader_machine.specs.laws.PokeLaws.{length_over}
 
 -- ---- cells
@@ -70,7 +71,6 @@ module _ (a b : AddressSetting) (id : a.id ≡ b.id) where
   entries_same (t ∷ targets) es = cc (entry_same t es.0, entries_same targets es.1)
 
   table_same : (targets : List Target) → AllByRecursion (λ (t : Target). a.target t.file t.segment ≡ b.target t.file t.segment) targets → entries_bytes a targets ≡ entries_bytes b targets
-  unfolding entries_bytes
   table_same targets es = ap table_bytes (entries_same targets es)
 
 -- ---- segments
@@ -101,7 +101,6 @@ module _ (segments : List Segment) (number : ℕ) (s : Segment) (sound : IsSound
   entry_target table t (inr is) = alike.far table t.file t.segment is.beyond
 
   read_same : read_bytes a s ≡ read_bytes b s
-  unfolding read_bytes
   read_same = go (is_table s) refl
     where
       go : (t : Bool) → is_table s ≡ t → cond t (entries_bytes a (targets_of s)) (map (byte_of a.place) (cells s)) ≡ cond t (entries_bytes b (targets_of s)) (map (byte_of b.place) (cells s))
@@ -131,14 +130,12 @@ length-table_bytes entries = omega (
 )
 
 table_length : (segments : List Segment) (number : ℕ) (s : Segment) (at : AddressSetting) → IsSoundSegment segments number s → is_table s ≡ true → length (entries_bytes at (targets_of s)) ≡ s.fields.length
-unfolding entries_bytes
 table_length segments number s at sound is =
     let laid = (sound.table is).laid_out.size in
     length-table_bytes (map (entry_for at) (targets_of s))
     ∙ omega (arith, laid, length-map (targets_of s) (entry_for at), length-map (targets_of s) file_entry, length-segment_bytes s sound.fits)
 
 read_long : (segments : List Segment) (number : ℕ) (s : Segment) (at : AddressSetting) → IsSoundSegment segments number s → length (read_bytes at s) ≡ s.fields.length
-unfolding read_bytes
 read_long segments number s at sound = go (is_table s) refl
   where
     go : (t : Bool) → is_table s ≡ t → length (cond t (entries_bytes at (targets_of s)) (map (byte_of at.place) (cells s))) ≡ s.fields.length

@@ -23,9 +23,10 @@ use Rattle.load_meaning.specs.laws.StoredLaws.{zeros_left}
 use Rattle.load_meaning.specs.laws.WrittenBodyLaws.{length-written}
 use Rattle.object_meaning.specs.laws.RunLaws.{text}
 use Rattle.omf_compact.specs.Stretches.{first_broken, stretches, bytes_in, IsWrittenCell}
+use Rattle.omf_compact.specs.laws.Words.{canon_records}
 use Rattle.omf_compact.specs.laws.StretchLaws.{stretches_written, given_back}
 use Rattle.omf_compact.specs.laws.Fronts.{front, zero_cells, front-zeros}
-use Rattle.omf_compact.specs.Canonical.{Plain, plain_of, plain, broken_in, canon_records, canon_fields, canon_segment, canon_from, canon}
+use Rattle.omf_compact.specs.Canonical.{Plain, plain_of, plain, broken_in, canon_fields, canon_segment, canon_from, canon}
 use Rattle.omf_compact.specs.laws.CanonLaws.{IsHeld, AreHeld, IsSmall, AreSmall, records-plain, read_again}
 use Rattle.omf_compact.specs.laws.LoadableAgain.{loadable_again}
 use Rattle.omf_compact.specs.laws.PathnameLaws.{path-is, lone_of, lone_patches, cells-again}

@@ -16,7 +16,8 @@ use Rattle.load_meaning.specs.laws.Steps.{patches_stored_alone}
 use Rattle.load_meaning.specs.laws.StoredLaws.{zeros-le}
 use Rattle.object_meaning.specs.laws.RunLaws.{IsBodyRecord, text, placed, flat-placed}
 use Rattle.omf_compact.specs.Stretches.{first_broken, stretches, bytes_in, IsWrittenCell}
-use Rattle.omf_compact.specs.Canonical.{is_entry, Plain, entries_in, plain_of, plain, is_pathname, canon_records, canon_fields, canon_segment, canon_from, canon}
+use Rattle.omf_compact.specs.Canonical.{is_entry, Plain, plain_of, plain, is_pathname, canon_fields, canon_segment, canon_from, canon}
+use Rattle.omf_compact.specs.laws.Words.{entries_in, canon_records}
 use Rattle.omf_compact.specs.laws.Sheets.{Sheet, sheet_text, IsSheet, IsSheetOf, AreSheetsOf, file_of_sheets}
 use Rattle.omf_compact.specs.laws.CellsBack.{given, patches_given, AreEntries, entry_content, entry_patches, none_of, cells_back}
 use Rattle.omf_compact.specs.laws.Fronts.{front, records_fit_front}
@@ -119,7 +120,6 @@ abbrev first_records : ℕ → Plain → List Record
 first_records number p = cond (is_pathname p) (LongConst (bytes_in p.cells') ∷ []) (body_records number (bytes_in p.cells') (stretches p.cells'))
 
 records-are : (number : ℕ) (p : Plain) → canon_records number p ≡ first_records number p ++ p.entries
-unfolding canon_records
 records-are number p = refl
 
 pub records-plain : (number : ℕ) (p : Plain) → is_pathname p ≡ false → canon_records number p ≡ body_records number (bytes_in p.cells') (stretches p.cells') ++ p.entries

@@ -19,7 +19,8 @@ use Rattle.load_meaning.specs.Loadable.{Fault, pathnames_flaw, pathnames_fault, 
 use Rattle.load_meaning.specs.laws.LoadTableLaws.{first_of-none}
 use Rattle.load_meaning.specs.laws.CellLaws.{cells-bytes, loadable_at, later_none}
 use Rattle.omf_compact.specs.Stretches.{bytes_in}
-use Rattle.omf_compact.specs.Canonical.{is_entry, Plain, entries_in, plain_of, plain, is_pathname}
+use Rattle.omf_compact.specs.Canonical.{is_entry, Plain, plain_of, plain, is_pathname}
+use Rattle.omf_compact.specs.laws.Words.{entries_in}
 use Rattle.omf_compact.specs.laws.CellsBack.{given, patches_given}
 use Rattle.omf_compact.specs.laws.SegmentLists.{none_at}
 

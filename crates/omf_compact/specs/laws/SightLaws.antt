@@ -23,12 +23,13 @@ use Rattle.loader_machine.specs.declared.faults.LoaderFault.{LoaderFault}
 use Rattle.loader_machine.specs.declared.faults.LoaderFault.TheVariants.{CannotRead, BadFile}
 use Rattle.loader_machine.specs.State.{User, Machine, UserSeen, Pokes, first_id, handles_of, held_at, outlines, is_attached, ids_from}
 use Rattle.loader_machine.specs.Presences.{presence_at}
-use Rattle.loader_machine.specs.Stands.{AddressSetting, entries_bytes, read_bytes, with_pokes, stands}
-use Rattle.loader_machine.specs.Found.{FileFound, Unread, Bad, Good, IsFound, IsRowFound, Joined, Stops, Joins, JoinsFound, AreJoined, joined_after, reads_of}
+use Rattle.loader_machine.specs.Stands.{AddressSetting, stands}
+use Rattle.loader_machine.specs.laws.Words.{entries_bytes, read_bytes, with_pokes, IsRowFound, JoinsFound, reads_of, IsPut, Lands, joined_user, begun_users, LoadsJoined, LoadsFound, Activates, EntersEntry, EntersSegment, Enters, RestartsInPlace, again_users, restart_reads, rows_if, rows_of, setting_in}
+use Rattle.loader_machine.specs.Found.{FileFound, Unread, Bad, Good, IsFound, Joined, Stops, Joins, AreJoined, joined_after}
 use Rattle.loader_machine.specs.Commands.{Command, Banks, Load, LoadSegment, UnloadSegment, Jsl, ShutDown, Restart, Purge, Poke, Bytes, Where, Info, Alloc, Free, Lock, Unlock, Level, StateOf, Room, Compact, Reply, Entered, SegmentIs, Refused}
 use Rattle.loader_machine.specs.Refusals.{Refuse, load_refusal, rows_refusal, load_segment_refusal, restart_refusal}
-use Rattle.loader_machine.specs.Steps.{Sees, IsSeen, Decides, Does, Either, Begins, IsPut, Lands, joined_user, joined_users, lost_from, lost_in, lost_refusal, begun_users, LoadsJoined, LoadsFound, StepsLoad, Activates, MakesActive, setting_in, StandsIn, IsAt, AddressPlace, Nowhere, In, IsLocated, EntersEntry, EntersSegment, Enters, target_at_code, address_of, no_jsl, StepsJsl, are_there, RestartsInPlace, again_users, StepsRestart, Steps}
-use Rattle.loader_machine.specs.Needs.{is_read, path_if, NeedsOf, Reaches, restart_reads, Needs, rows_if, rows_of, NeedsAfter, IsReadFor}
+use Rattle.loader_machine.specs.Steps.{Sees, IsSeen, Decides, Does, Either, Begins, joined_users, lost_from, lost_in, lost_refusal, StepsLoad, MakesActive, StandsIn, IsAt, AddressPlace, Nowhere, In, IsLocated, target_at_code, address_of, no_jsl, StepsJsl, are_there, StepsRestart, Steps}
+use Rattle.loader_machine.specs.Needs.{is_read, path_if, NeedsOf, Reaches, Needs, NeedsAfter, IsReadFor}
 use Rattle.loader_machine.specs.Transcript.{IsAnswered}
 use Rattle.omf_compact.specs.Replaced.{IsLikeReply, SameReply, AnswersAlike}
 use Rattle.omf_compact.specs.laws.Sights.{Sight, sight_of, AreAlike, Shows}
@@ -64,7 +65,7 @@ read_sight : AddressSetting → Sight → List ℕ
 read_sight at v = cond (is_table v.head) (entries_bytes at v.targets) (map (byte_of at.place) v.cells')
 
 read_is : (at : AddressSetting) (s : Segment) → read_bytes at s ≡ read_sight at (sight_of s)
-unfolding read_bytes read_sight
+unfolding read_sight
 read_is at s = elim (cases_Bool (is_table (head_of s))) [
   | inl is ↦ rw is refl
   | inr other ↦ rw other refl

@@ -17,7 +17,8 @@ use Rattle.omf_compact.specs.declared.fault.CompactCause.{CompactCause}
 use Rattle.omf_compact.specs.declared.fault.CompactCause.TheVariants.{BrokenPart, Memory}
 use Rattle.omf_compact.specs.declared.fault.CompactFault.{CompactFault}
 use Rattle.omf_compact.specs.Stretches.{first_broken, stretches, bytes_in}
-use Rattle.omf_compact.specs.Canonical.{Plain, plain, broken_in, is_pathname, entries_in}
+use Rattle.omf_compact.specs.Canonical.{Plain, plain, broken_in, is_pathname}
+use Rattle.omf_compact.specs.laws.Words.{entries_in}
 
 -- the segments are those of a load file
 pub record IsKnown (segments : List Segment) : Type 0 where

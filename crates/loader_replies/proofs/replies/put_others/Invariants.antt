@@ -1,6 +1,6 @@
 use Rattle.std.proofs.Common.{◌≡◌, ◌++◌, take}
 use Rattle.std.specs.List.{flat_map}
-use Rattle.loader_machine.specs.Replies.{other_text}
+use Rattle.loader_machine.specs.laws.Words.{other_text}
 use Rattle.loader_replies.proofs.replies.put_others.Given as goal
 
 -- the bytes so far were appended

@@ -1,6 +1,6 @@
 use Rattle.std.proofs.Common.{◌≡◌, ◌<◌, ◌∷◌, ◌++◌, [], false, List, map, Ok, sym, ap, ◌∙◌, arith}
 use Rattle.std.proofs.lemmas.List.{map-append}
-use Rattle.loader_machine.specs.Script.{is_skipped, is_start, most_lines, line_command}
+use Rattle.loader_machine.specs.Script.{is_skipped, most_lines, line_command, is_start}
 use Rattle.script_text.specs.declared.command.Command.{Command}
 use Rattle.script_text.specs.View.{command}
 use Rattle.script_text.specs.Lines.{Gave}

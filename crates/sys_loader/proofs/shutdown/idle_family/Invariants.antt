@@ -1,6 +1,7 @@
 use Rattle.std.proofs.Common.{◌≡◌, Some, map, take}
 use Rattle.std.specs.Prelude.{option_map}
-use Rattle.loader_machine.specs.State.{user_of, handles_of_all}
+use Rattle.loader_machine.specs.State.{user_of}
+use Rattle.loader_machine.specs.laws.Words.{handles_of_all}
 use Rattle.loader_agrees.specs.Agrees.{LoadedUser, kept_outlines}
 use Rattle.loader_users.specs.View.{kept}
 use Rattle.sys_loader.specs.Lives.{AreIdled}

@@ -2,7 +2,8 @@ use Rattle.std.proofs.Common.{◌≡◌, ◌-◌, true, List, length, map, Optio
 use Rattle.std.specs.Prelude.{option_map}
 use Rattle.std.proofs.lemmas.List.{length-map}
 use Rattle.loader_machine.specs.declared.seen.Life.TheVariants.{Dormant}
-use Rattle.loader_machine.specs.State.{first_id, user_of, with_user, with_all, family, is_attached}
+use Rattle.loader_machine.specs.State.{first_id, user_of, with_user, with_all, is_attached}
+use Rattle.loader_machine.specs.laws.Words.{family}
 use Rattle.loader_machine.specs.Refusals.{shut_down_refusal}
 use Rattle.loader_agrees.specs.Agrees.{LoadedUser, Loaded, kept_outlines, seen_by}
 use Rattle.loader_agrees.specs.laws.Seeing.{made_at}
