@@ -3,7 +3,7 @@
 ghost use Rattle.std.specs.Prelude.{◌≡◌, ◌<◌};
 ghost use Rattle.omf_records.specs.View.{view};
 ghost use Rattle.load_writer.specs.WrittenParts.{seen};
-ghost use Rattle.load_meaning.specs.WrittenBody.{has_shape, is_named, is_short, is_form, has_none, super_form, lone_record};
+ghost use Rattle.load_meaning.specs.WrittenBody.{has_shape, is_named, is_short, is_form, super_form, lone_record};
 
 use crate::written::Patch;
 use omf_records::Rec;
@@ -53,24 +53,12 @@ pub fn super_form(own: u16, patch: &Patch) -> Option<u8>
     None
 }
 
-/// The patch is in the SUPER of this type.
-pub fn has_form(own: u16, patch: &Patch, form: u8) -> bool
-    ensures { result ≡ is_form form (super_form own (seen patch.now)) }
+/// The patch is in the SUPER of type 2, which holds those in another segment with three bytes and no shift.
+#[tactic(auto, unfolding(load_meaning::specs::WrittenBody::super_form))]
+pub fn is_far(own: u16, patch: &Patch) -> bool
+    ensures { result ≡ is_form 2 (super_form own (seen patch.now)) }
 {
-    match super_form(own, patch) {
-        Some(other) => other == form,
-        None => false,
-    }
-}
-
-/// The patch is in no SUPER.
-pub fn is_lone(own: u16, patch: &Patch) -> bool
-    ensures { result ≡ has_none (super_form own (seen patch.now)) }
-{
-    match super_form(own, patch) {
-        Some(_) => false,
-        None => true,
-    }
+    patch.segment != own && patch.segment <= 255 && has_shape(patch, 3, 0)
 }
 
 /// The record of a patch alone.
