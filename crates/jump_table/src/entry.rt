@@ -12,7 +12,7 @@ use load_meaning::{Entry, Target};
 use omf_base::number;
 
 /// The code of an entry whose target isn't loaded: a JSL to the loader at $E1F000.
-pub const UNLOADED: [u8; 4] = [0x22, 0x00, 0xF0, 0xE1];
+const UNLOADED: [u8; 4] = [0x22, 0x00, 0xF0, 0xE1];
 
 /// How many bytes an entry has.
 const ENTRY: usize = 14;
@@ -130,11 +130,11 @@ pub fn target_at(bytes: &[u8], place: usize) -> Target
     target_in(bytes, 8 + 14 * place)
 }
 
-/// Writes an entry of a user for a target that isn't loaded, from a displacement on.
+/// The bytes of an entry of a user for a target that isn't loaded.
 #[tactic(auto, unfolding(load_meaning::specs::Table::entry_bytes))]
-pub fn put_entry(bytes: &mut [u8], at: usize, user: u16, target: Target)
-    requires { at + 14 ≤ length bytes.old }
-    ensures { bytes.new ≡ written_at at (entry_bytes (record { user = user; file = target.file; segment = target.segment; offset = target.offset; loaded = None })) bytes.old }
+pub(crate) fn entry_of(user: u16, target: Target) -> [u8; 14]
+    ensures bytes { result ≡ entry_bytes (record { user = user; file = target.file; segment = target.segment; offset = target.offset; loaded = None }) }
+    ensures size { length result ≡ 14 }
 {
     let mut entry = [0; 14];
     LittleEndian::write_u16(&mut entry, user);
@@ -142,7 +142,15 @@ pub fn put_entry(bytes: &mut [u8], at: usize, user: u16, target: Target)
     LittleEndian::write_u16(&mut entry[4..], target.segment);
     LittleEndian::write_u32(&mut entry[6..], target.offset);
     entry[10..].copy_from_slice(&UNLOADED);
-    overwrite_bytes(bytes, at, &entry);
+    entry
+}
+
+/// Writes an entry of a user for a target that isn't loaded, from a displacement on.
+pub fn put_entry(bytes: &mut [u8], at: usize, user: u16, target: Target)
+    requires { at + 14 ≤ length bytes.old }
+    ensures { bytes.new ≡ written_at at (entry_bytes (record { user = user; file = target.file; segment = target.segment; offset = target.offset; loaded = None })) bytes.old }
+{
+    overwrite_bytes(bytes, at, &entry_of(user, target));
 }
 
 /// Sets the user ID of the entry that begins at a displacement.

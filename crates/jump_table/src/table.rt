@@ -4,8 +4,7 @@ ghost use Rattle.std.specs.Prelude.{All, ◌≡◌, ◌↔◌, ◌+◌, ◌<◌,
 ghost use Rattle.std.specs.List.{list_any};
 ghost use Rattle.load_meaning.specs.Table.{entry_bytes, table_bytes, file_entry, IsTableOf};
 
-use crate::entry::UNLOADED;
-use byteorder::{ByteOrder, LittleEndian};
+use crate::entry::entry_of;
 use indexmap::IndexSet;
 use load_meaning::Target;
 use std::alloc::{AllocError, Global};
@@ -54,16 +53,10 @@ impl Model for Table {
 }
 
 // The entry of a target, as it is in a file.
-#[tactic(auto, unfolding(load_meaning::specs::Table::entry_bytes))]
 fn put_entry(out: &mut Vec<u8>, target: &Target) -> Result<(), AllocError>
     ensures { OnOk result (out.new.items ≡ out.old.items ++ entry_bytes (file_entry target.now)) }
 {
-    let mut entry = [0; 14];
-    LittleEndian::write_u16(&mut entry[2..], target.file);
-    LittleEndian::write_u16(&mut entry[4..], target.segment);
-    LittleEndian::write_u32(&mut entry[6..], target.offset);
-    entry[10..].copy_from_slice(&UNLOADED);
-    out.extend_from_slice(&entry)
+    out.extend_from_slice(&entry_of(0, *target))
 }
 
 impl Table {

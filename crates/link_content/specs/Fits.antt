@@ -8,7 +8,7 @@ use Rattle.link_meaning.specs.Member.{LinkSetting}
 use Rattle.link_meaning.specs.Fitting as meaning
 use Rattle.link_content.specs.declared.fit.FitOutcome.{FitOutcome}
 use Rattle.link_content.specs.declared.fit.FitOutcome.TheVariants.{Number, Place, Entry}
-use Rattle.link_content.specs.declared.fit.LoadLimits.{LoadLimits}
+use Rattle.link_content.specs.declared.context.LoadLimits.{LoadLimits}
 use Rattle.link_content.specs.declared.fit.PatchPlace.{PatchPlace}
 
 abbrev pub to_fit_meaning : FitOutcome → meaning.Fit

@@ -1,6 +1,5 @@
 -- What is put into a load segment.
 use Rattle.std.specs.Prelude.{◌≡◌, ℕ, ◌++◌, List, Ok, Err}
-use Rattle.omf_format.specs.declared.value.Value.{Value}
 use Rattle.omf_format.specs.Header.{HeaderFields}
 use Rattle.load_meaning.specs.Cells.{Cell}
 use Rattle.load_meaning.specs.declared.table.Target.{Target}
@@ -31,8 +30,8 @@ pub record PutsFit (number count : ℕ) (old new : List Target) (fit : meaning.F
   pub cells' : (cells : List Cell) → HoldsCells cells before → HoldsCells (cells ++ fit_cells number count new fit) after
 
 -- the bytes of what the value became in the record were put
-pub record PutsValue (headers : List HeaderFields) (frame : meaning.PatchPlace) (following : List Cell) (formula : FormulaRecord) (value : Value) (number : ℕ) (old new : List Target) (before after : Holding) : Type 0 where
+pub record PutsValue (headers : List HeaderFields) (frame : meaning.PatchPlace) (following : List Cell) (formula : FormulaRecord) (number : ℕ) (old new : List Target) (before after : Holding) : Type 0 where
   pub fit : meaning.Fit
-  pub fits : fit_value headers frame old following formula.code formula.count formula.n value ≡ Ok fit
+  pub fits : fit_value headers frame old following formula.code formula.count formula.n formula.value ≡ Ok fit
   pub targets' : new ≡ targets_after old fit
   pub cells' : (cells : List Cell) → HoldsCells cells before → HoldsCells (cells ++ fit_cells number formula.count new fit) after

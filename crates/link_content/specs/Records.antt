@@ -1,19 +1,20 @@
 -- Where a record is that is put, and what there is after it.
-use Rattle.std.specs.Prelude.{◌≡◌, ℕ, ◌++◌, true, List, length, map, Result, Ok}
+use Rattle.std.specs.Prelude.{◌≡◌, ◌++◌, true, List, length, map, Result, Ok}
 use Rattle.omf_format.specs.Record.{Record, Equate, Formula}
 use Rattle.omf_format.specs.Field.{is_count}
 use Rattle.load_meaning.specs.Cells.{Cell}
 use Rattle.load_meaning.specs.declared.table.Target.{Target}
 use Rattle.link_meaning.specs.declared.fault.LinkCause.{LinkCause}
-use Rattle.link_meaning.specs.Member.{LinkSetting, Member, setting_in}
-use Rattle.link_meaning.specs.Layout.{load_headers, load_of, offset_of}
+use Rattle.link_meaning.specs.Member.{Member, setting_in}
+use Rattle.link_meaning.specs.Layout.{load_headers}
 use Rattle.omf_format.specs.declared.value.Value.{Value}
 use Rattle.omf_format.specs.declared.value.ValueFault.{ValueFault}
 use Rattle.link_meaning.specs.LinkValues.{EquateAnswer, value_in}
-use Rattle.link_meaning.specs.LinkedCells.{LinkState, Item, Made, bank_of, table_number, cells_before}
+use Rattle.link_meaning.specs.LinkedCells.{LinkState, Item, Made, table_number, cells_before}
 use Rattle.link_content.specs.Holding.{Holding}
-use Rattle.link_content.specs.declared.fit.LoadLimits.{LoadLimits}
-use Rattle.link_content.specs.declared.record.MemberTarget.{MemberTarget}
+use Rattle.link_content.specs.declared.context.LinkContext.{LinkContext}
+use Rattle.link_content.specs.declared.context.RecordPlace.{RecordPlace}
+use Rattle.link_program.specs.MemberPlaces.{IsMemberPlace}
 use Rattle.link_content.specs.Contents.{HoldsCells}
 use Rattle.link_content.specs.Fits.{to_load_limits}
 
@@ -28,22 +29,17 @@ IsWorth list reported i (Equate global name size form private expr) worth = valu
 IsWorth list reported i (Formula code count n expr) worth = value_in list reported i.place i.member i.here.location expr ≡ worth
 IsWorth _ _ _ _ _ = Unit {0}
 
--- the member's records go there
-pub record IsSite (list : List Member) (place : ℕ) (m : Member) (site : MemberTarget) : Type 0 where
-  pub table' : site.table ≡ table_number list
-  pub own' : site.own ≡ load_of list m
-  pub bank_size' : site.bank_size ≡ bank_of (load_headers list) (load_of list m)
-  pub offset' : site.offset ≡ offset_of list place m
-
--- a record of the member at a site is at this location, after what the records before it left: their targets, and the cells of the load
--- segment, of which `front` are those before the member
-pub record StandsAt (list : List Member) (reported : List EquateAnswer) (state : LinkState) (i : Item) (site : MemberTarget) (setting : LinkSetting) (loads : List LoadLimits) (targets : List Target) (front : List Cell) (location : ℕ) (content : Holding) : Type 0 where
-  pub setting' : setting_in list ≡ setting
-  pub loads' : loads ≡ map to_load_limits (load_headers list)
-  pub site' : IsSite list i.place i.member site
-  pub location' : i.here.location ≡ location
+-- a record of the member is at this place, after what the records before it left: their targets, and the cells of the load segment, of which
+-- `front` are those before the member
+pub record StandsAt (list : List Member) (reported : List EquateAnswer) (state : LinkState) (i : Item) (context : LinkContext) (place : RecordPlace) (targets : List Target) (front : List Cell) (content : Holding) : Type 0 where
+  pub setting' : setting_in list ≡ setting_in context.program.now
+  pub loads' : context.loads.now ≡ map to_load_limits (load_headers list)
+  pub table' : context.table ≡ table_number list
+  pub member' : IsMemberPlace list i.member place.member
+  pub place' : place.member.place ≡ i.place
+  pub location' : i.here.location ≡ place.location
   pub targets' : state.targets ≡ targets
-  pub front' : length front ≡ site.offset
+  pub front' : length front ≡ place.member.offset
   pub holds : HoldsCells (front ++ cells_before state i) content
 
 -- these cells follow the others, and these are the targets then

@@ -11,6 +11,7 @@ ghost use Rattle.link_meaning.specs.Fitting.{place_fit, is_dynamic_load, length_
 ghost use Rattle.link_meaning.specs.laws.Steps.{distance_fit, length_there, is_far, number_fit, may_call, or_does_not_fit, is_call};
 ghost use Rattle.link_content.specs.Fits.{to_fit_meaning, shown_frame, to_fit, to_load_limits, fit_with_room};
 
+use crate::context::{LinkContext, LoadLimits};
 use jump_table::Target;
 use link_meaning::{LinkCause, LinkForm};
 use link_program::Program;
@@ -31,14 +32,6 @@ pub enum FitOutcome {
     Entry(Target),
 }
 
-/// What fitting asks of a load segment.
-#[derive(Clone, Copy)]
-pub struct LoadLimits {
-    pub dynamic: bool,
-    pub length: u32,
-    pub bank_size: u32,
-}
-
 /// Where an expression record is.
 #[derive(Clone, Copy)]
 pub struct PatchPlace {
@@ -48,14 +41,17 @@ pub struct PatchPlace {
     pub bank_size: u32,
     /// Its place in the load segment.
     pub place: u32,
+    /// Whether the byte before it in its member is $22.
+    pub after_jsl: bool,
 }
 
-/// What an expression record asks for: its code, how many bytes it gives, and RELEXPR's displacement.
+/// What an expression record asks for: its code, how many bytes it gives, RELEXPR's displacement, and the value of its expression.
 #[derive(Clone, Copy)]
 pub struct FormulaRecord {
     pub code: u8,
     pub count: u8,
     pub n: u32,
+    pub value: Value,
     ghost counted: { IsTrue (is_count count) },
 }
 
@@ -186,13 +182,13 @@ fn length_outside(program: &Program, file: u16, segment: u16) -> u32
 }
 
 /// LENGTH of the segment that is called.
-fn length_there(program: &Program, loads: &[LoadLimits], target: Target) -> u32
-    ensures { (headers : List HeaderFields) → loads.now ≡ map to_load_limits headers → result ≡ length_there headers (setting_in program.now) target }
+fn length_there(context: &LinkContext, target: Target) -> u32
+    ensures { (headers : List HeaderFields) → context.now.loads.now ≡ map to_load_limits headers → result ≡ length_there headers (setting_in context.now.program.now) target }
 {
     if target.file == 1 {
-        return length_of(loads, target.segment);
+        return length_of(context.loads, target.segment);
     }
-    length_outside(program, target.file, target.segment)
+    length_outside(context.program, target.file, target.segment)
 }
 
 /// Whether what is linked so calls through a jump table: a program alone.
@@ -236,19 +232,16 @@ fn or_does_not_fit(fit: Option<FitOutcome>) -> Result<FitOutcome, LinkCause>
     }
 }
 
-/// What a value becomes in a record at this place, after a byte $22 or not; whether the jump table has room for its target isn't checked.
+/// What the value of an expression record at this place becomes; whether the jump table has room for its target isn't checked.
 pub fn fit_value(
-    program: &Program,
-    loads: &[LoadLimits],
+    context: &LinkContext,
     frame: PatchPlace,
-    jsl: bool,
     formula: FormulaRecord,
-    value: Value,
 ) -> Result<FitOutcome, LinkCause>
-    ensures { (headers : List HeaderFields) (targets : List Target) (before : List Cell) → loads.now ≡ map to_load_limits headers → ends_in_jsl before ≡ jsl
-        → fit_value headers (shown_frame (setting_in program.now) frame) targets before formula.code formula.count formula.n value ≡ fit_with_room targets result }
+    ensures { (headers : List HeaderFields) (targets : List Target) (before : List Cell) → context.now.loads.now ≡ map to_load_limits headers → ends_in_jsl before ≡ frame.after_jsl
+        → fit_value headers (shown_frame (setting_in context.now.program.now) frame) targets before formula.code formula.count formula.n formula.value ≡ fit_with_room targets result }
 {
-    match value {
+    match formula.value {
         Value::Fixed(n) => or_does_not_fit(number_fit(formula, n)),
         Value::At {
             file,
@@ -256,14 +249,15 @@ pub fn fit_value(
             offset,
             shift,
         } => {
-            if is_far(loads, frame.own, file, segment) {
+            if is_far(context.loads, frame.own, file, segment) {
                 let target = Target {
                     file,
                     segment,
                     offset,
                 };
-                let length = length_there(program, loads, target);
-                let call = may_call(program.form()) && is_call(formula, shift, jsl);
+                let length = length_there(context, target);
+                let call = may_call(context.program.form())
+                    && is_call(formula, shift, frame.after_jsl);
                 return call_fit(length, call, target);
             }
             or_does_not_fit(place_fit(frame, formula, segment, offset, shift))

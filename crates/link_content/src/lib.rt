@@ -3,11 +3,13 @@
 #![tactic(auto)]
 
 mod content;
+mod context;
 mod fit;
 mod plain;
 mod put;
 mod record;
 
 pub use content::{ByteStorage, LoadContent};
-pub use fit::{LoadLimits, length_of};
-pub use record::{MemberTarget, put_record};
+pub use context::{LinkContext, LoadLimits, RecordPlace, ValuedRecord};
+pub use fit::length_of;
+pub use record::put_record;

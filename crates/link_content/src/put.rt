@@ -13,12 +13,11 @@ ghost use Rattle.link_content.specs.Contents.{HoldsCells};
 ghost use Rattle.link_content.specs.Puts.{EntersTarget, LacksRoom, PutsFit, PutsValue};
 
 use crate::content::LoadContent;
-use crate::fit::{FitOutcome, FormulaRecord, LoadLimits, PatchPlace, fit_value};
+use crate::context::LinkContext;
+use crate::fit::{FitOutcome, FormulaRecord, PatchPlace, fit_value};
 use jump_table::{Table, TableFault, Target};
 use link_meaning::LinkCause;
-use link_program::Program;
 use omf_base::first_items;
-use omf_format::Value;
 
 /// The bytes of a number, lowest first.
 fn bytes_of(n: u32) -> [u8; 4]
@@ -106,25 +105,20 @@ fn put_fit(
     }
 }
 
-/// Puts what the value of an expression record at this place becomes, after a byte $22 or not. The jump table is the load segment with this
-/// number.
+/// Puts what the value of an expression record at this place becomes.
 pub fn put_formula(
+    context: &LinkContext,
+    frame: PatchPlace,
+    formula: FormulaRecord,
     content: &mut LoadContent<'_>,
     table: &mut Table,
-    number: u16,
-    program: &Program,
-    loads: &[LoadLimits],
-    frame: PatchPlace,
-    jsl: bool,
-    formula: FormulaRecord,
-    value: Value,
 ) -> Result<(), LinkCause>
     requires small { length (content.old).bytes + 4 < 2 ^ 32 }
-    ensures ok { OnOk result ((headers : List HeaderFields) (before : List Cell) → loads.now ≡ map to_load_limits headers → ends_in_jsl before ≡ jsl
-        → PutsValue headers (shown_frame (setting_in program.now) frame) before formula value number table.old table.new content.old content.new) }
-    ensures err { IfErr result (λ cause. (headers : List HeaderFields) (before : List Cell) → loads.now ≡ map to_load_limits headers → ends_in_jsl before ≡ jsl
-        → (cause ≡ causes.Memory) ⊎ (fit_value headers (shown_frame (setting_in program.now) frame) table.old before formula.code formula.count formula.n value ≡ Err cause)) }
+    ensures ok { OnOk result ((headers : List HeaderFields) (before : List Cell) → context.now.loads.now ≡ map to_load_limits headers → ends_in_jsl before ≡ frame.after_jsl
+        → PutsValue headers (shown_frame (setting_in context.now.program.now) frame) before formula context.now.table table.old table.new content.old content.new) }
+    ensures err { IfErr result (λ cause. (headers : List HeaderFields) (before : List Cell) → context.now.loads.now ≡ map to_load_limits headers → ends_in_jsl before ≡ frame.after_jsl
+        → (cause ≡ causes.Memory) ⊎ (fit_value headers (shown_frame (setting_in context.now.program.now) frame) table.old before formula.code formula.count formula.n formula.value ≡ Err cause)) }
 {
-    let fit = fit_value(program, loads, frame, jsl, formula, value)?;
-    put_fit(content, table, number, formula.count, fit)
+    let fit = fit_value(context, frame, formula)?;
+    put_fit(content, table, context.table, formula.count, fit)
 }

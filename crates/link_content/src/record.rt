@@ -1,41 +1,30 @@
 //! What a record of a member puts into its load segment.
 
-ghost use Rattle.std.specs.Prelude.{◌≡◌, ◌⊎◌, ◌+◌, ◌<◌, ◌^◌, ◌++◌, Ok, Err, ℕ, List, IfErr, OnOk, length};
+ghost use Rattle.std.specs.Prelude.{◌≡◌, ◌⊎◌, ◌+◌, ◌<◌, ◌^◌, ◌++◌, Ok, Err, ℕ, List, IfErr, OnOk, length, map};
 ghost use Rattle.load_meaning.specs.Cells.{Cell};
 ghost use Rattle.link_meaning.specs.declared.fault.LinkCause.TheVariants as causes;
 ghost use Rattle.link_meaning.specs.Fitting.{ends_in_jsl};
 ghost use Rattle.link_meaning.specs.laws.Steps.{value_cause};
+ghost use Rattle.omf_format.specs.Header.{HeaderFields};
 ghost use Rattle.omf_format.specs.Record as format;
 ghost use Rattle.object_meaning.specs.Sizes.{size_at};
-ghost use Rattle.link_meaning.specs.Member.{Member, setting_in};
+ghost use Rattle.link_meaning.specs.Member.{Member};
 ghost use Rattle.link_meaning.specs.LinkValues.{EquateAnswer, value_in};
-ghost use Rattle.link_meaning.specs.LinkedCells.{LinkState, Item, cells_before, made_by};
+ghost use Rattle.link_meaning.specs.LinkedCells.{LinkState, Item, bank_of, cells_before, made_by};
 ghost use Rattle.omf_records.specs.View.{view};
 ghost use Rattle.link_content.specs.Contents.{HoldsCells};
+ghost use Rattle.link_content.specs.Fits.{to_load_limits};
 ghost use Rattle.link_content.specs.Records.{IsCounted, IsWorth, StandsAt, PutsMade};
 
 use crate::content::LoadContent;
-use crate::fit::{FormulaRecord, LoadLimits, PatchPlace};
+use crate::context::{LinkContext, RecordPlace, ValuedRecord, bank_of};
+use crate::fit::{FormulaRecord, PatchPlace};
 use crate::plain::put_plain;
 use crate::put::put_formula;
 use jump_table::Table;
 use link_meaning::LinkCause;
-use link_program::Program;
-use omf_format::{Value, ValueFault};
+use omf_format::ValueFault;
 use omf_records::Rec;
-
-/// Where the records of a member go.
-#[derive(Clone, Copy)]
-pub struct MemberTarget {
-    /// The number of the load segment that is the jump table, after all others.
-    pub table: u16,
-    /// The number of the member's load segment.
-    pub own: u16,
-    /// Its BANKSIZE.
-    pub bank_size: u32,
-    /// The member's offset there.
-    pub offset: u32,
-}
 
 /// A value's fault as one of the linker.
 fn cause_of(fault: ValueFault) -> LinkCause
@@ -61,73 +50,76 @@ fn ends_in_jsl(content: &LoadContent<'_>, start: usize) -> bool
     }
 }
 
-/// Puts what an expression record gives whose expression has this value.
-fn put_value(
-    content: &mut LoadContent<'_>,
-    table: &mut Table,
-    program: &Program,
-    loads: &[LoadLimits],
-    site: MemberTarget,
-    location: u32,
-    formula: FormulaRecord,
-    value: Value,
-) -> Result<(), LinkCause>
-    requires small { length (content.old).bytes + 4 < 2 ^ 32 }
-    requires near { site.offset + location < 2 ^ 32 }
-    ensures ok { OnOk result ((list : List Member) (reported : List EquateAnswer) (state : LinkState) (i : Item) (front : List Cell) (expr : List ℕ)
-        → StandsAt list reported state i site (setting_in program.now) loads.now table.old front location content.old → value_in list reported i.place i.member i.here.location expr ≡ Ok value
-        → PutsMade (made_by list reported state i (format.Formula formula.code formula.count formula.n expr)) (front ++ cells_before state i) table.new content.new) }
-    ensures err { IfErr result (λ cause. (list : List Member) (reported : List EquateAnswer) (state : LinkState) (i : Item) (front : List Cell) (expr : List ℕ)
-        → StandsAt list reported state i site (setting_in program.now) loads.now table.old front location content.old → value_in list reported i.place i.member i.here.location expr ≡ Ok value
-        → (cause ≡ causes.Memory) ⊎ (made_by list reported state i (format.Formula formula.code formula.count formula.n expr) ≡ Err cause)) }
+/// Where an expression record is in its load segment, whose content this is so far.
+fn frame_of(context: &LinkContext, place: RecordPlace, content: &LoadContent<'_>) -> PatchPlace
+    requires near { place.member.offset + place.location < 2 ^ 32 }
+    ensures own { result.own ≡ place.member.load_segment }
+    ensures bank { (headers : List HeaderFields) → context.now.loads.now ≡ map to_load_limits headers → result.bank_size ≡ bank_of headers place.member.load_segment }
+    ensures place { result.place ≡ place.member.offset + place.location }
+    ensures jsl { (front cells : List Cell) → HoldsCells (front ++ cells) content.now → length front ≡ place.member.offset → result.after_jsl ≡ ends_in_jsl cells }
 {
-    let frame = PatchPlace {
-        own: site.own,
-        bank_size: site.bank_size,
-        place: site.offset + location,
-    };
-    let jsl = ends_in_jsl(content, site.offset as usize);
-    put_formula(
-        content, table, site.table, program, loads, frame, jsl, formula, value,
-    )
+    let member = place.member;
+    PatchPlace {
+        own: member.load_segment,
+        bank_size: bank_of(context.loads, member.load_segment),
+        place: member.offset + place.location,
+        after_jsl: ends_in_jsl(content, member.offset as usize),
+    }
 }
 
-/// Puts what a record at this place of its member gives. If it has an expression, `value` is the expression's value, or its fault.
+/// Puts what an expression record gives.
+fn put_value(
+    context: &LinkContext,
+    place: RecordPlace,
+    formula: FormulaRecord,
+    content: &mut LoadContent<'_>,
+    table: &mut Table,
+) -> Result<(), LinkCause>
+    requires small { length (content.old).bytes + 4 < 2 ^ 32 }
+    requires near { place.member.offset + place.location < 2 ^ 32 }
+    ensures ok { OnOk result ((list : List Member) (reported : List EquateAnswer) (state : LinkState) (i : Item) (front : List Cell) (expr : List ℕ)
+        → StandsAt list reported state i context.now place table.old front content.old → value_in list reported i.place i.member i.here.location expr ≡ Ok formula.value
+        → PutsMade (made_by list reported state i (format.Formula formula.code formula.count formula.n expr)) (front ++ cells_before state i) table.new content.new) }
+    ensures err { IfErr result (λ cause. (list : List Member) (reported : List EquateAnswer) (state : LinkState) (i : Item) (front : List Cell) (expr : List ℕ)
+        → StandsAt list reported state i context.now place table.old front content.old → value_in list reported i.place i.member i.here.location expr ≡ Ok formula.value
+        → (cause ≡ causes.Memory) ⊎ (made_by list reported state i (format.Formula formula.code formula.count formula.n expr) ≡ Err cause)) }
+{
+    let frame = frame_of(context, place, content);
+    put_formula(context, frame, formula, content, table)
+}
+
+/// Puts what a record at this place gives, by what its expression is worth, if it has one.
 pub fn put_record<'a>(
+    context: &LinkContext,
+    place: RecordPlace,
+    record: ValuedRecord<'_, 'a>,
     content: &mut LoadContent<'a>,
     table: &mut Table,
-    program: &Program,
-    loads: &[LoadLimits],
-    site: MemberTarget,
-    location: u32,
-    rec: &Rec<'a>,
-    value: Result<Value, ValueFault>,
 ) -> Result<(), LinkCause>
-    requires counted { IsCounted (view rec.now) }
-    requires small { length (content.old).bytes + size_at location (view rec.now) + 4 < 2 ^ 32 }
-    requires near { site.offset + location < 2 ^ 32 }
+    requires counted { IsCounted (view record.rec.now) }
+    requires small { length (content.old).bytes + size_at place.location (view record.rec.now) + 4 < 2 ^ 32 }
+    requires near { place.member.offset + place.location < 2 ^ 32 }
     ensures ok { OnOk result ((list : List Member) (reported : List EquateAnswer) (state : LinkState) (i : Item) (front : List Cell)
-        → StandsAt list reported state i site (setting_in program.now) loads.now table.old front location content.old → IsWorth list reported i (view rec.now) value
-        → PutsMade (made_by list reported state i (view rec.now)) (front ++ cells_before state i) table.new content.new) }
+        → StandsAt list reported state i context.now place table.old front content.old → IsWorth list reported i (view record.entry.rec.now) record.entry.value
+        → PutsMade (made_by list reported state i (view record.entry.rec.now)) (front ++ cells_before state i) table.new content.new) }
     ensures err { IfErr result (λ cause. (list : List Member) (reported : List EquateAnswer) (state : LinkState) (i : Item) (front : List Cell)
-        → StandsAt list reported state i site (setting_in program.now) loads.now table.old front location content.old → IsWorth list reported i (view rec.now) value
-        → (cause ≡ causes.Memory) ⊎ (made_by list reported state i (view rec.now) ≡ Err cause)) }
+        → StandsAt list reported state i context.now place table.old front content.old → IsWorth list reported i (view record.entry.rec.now) record.entry.value
+        → (cause ≡ causes.Memory) ⊎ (made_by list reported state i (view record.entry.rec.now) ≡ Err cause)) }
 {
-    match rec {
-        Rec::Formula { code, count, n, .. } => match value {
+    match record.rec {
+        Rec::Formula { code, count, n, .. } => match record.value {
             Ok(value) => {
                 let formula = FormulaRecord {
                     code: *code,
                     count: *count,
                     n: *n,
+                    value,
                 };
-                put_value(
-                    content, table, program, loads, site, location, formula, value,
-                )
+                put_value(context, place, formula, content, table)
             }
             Err(fault) => Err(cause_of(fault)),
         },
-        Rec::Equate { .. } => match value {
+        Rec::Equate { .. } => match record.value {
             Ok(_) => Ok(()),
             Err(fault) => Err(cause_of(fault)),
         },
@@ -145,7 +137,7 @@ pub fn put_record<'a>(
         | Rec::Using { .. }
         | Rec::Strong { .. }
         | Rec::Label { .. }
-        | Rec::Entry { .. } => match put_plain(content, rec, location) {
+        | Rec::Entry { .. } => match put_plain(content, record.rec, place.location) {
             Ok(()) => Ok(()),
             Err(_) => Err(LinkCause::Memory),
         },

@@ -154,6 +154,10 @@ ready_size (h ∷ headers) (c ∷ contents) (suc k) ready less le = ready_size h
 
 -- ---- a header is written into the room before a body
 
+-- what follows the room for a header
+pub after_room : (old mid new room body : List ℕ) → mid ≡ old ++ room → new ≡ mid ++ body → new ≡ old ++ room ++ body
+after_room old mid new room body is more = more ∙ ap (λ (l : List ℕ). l ++ body) is
+
 pub after_size : (old body mid at whole : List ℕ) (n : ℕ) → at ≡ old → whole ≡ mid → mid ≡ old ++ replicate n 0 ++ body → length whole ≡ length at + n + length body
 after_size old body mid at whole n at_is whole_is is =
     omega (arith, ap length at_is, ap length whole_is, ap length is, length-append (old ++ replicate n 0) body, length-append old (replicate n 0), length-replicate {A = ℕ} n 0)

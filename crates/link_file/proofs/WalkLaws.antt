@@ -11,7 +11,7 @@ use Rattle.object_meaning.specs.Sizes.{size_at, located_from, records_with_offse
 use Rattle.link_meaning.specs.Member.{Member, setting_in}
 use Rattle.link_meaning.specs.Layout.{offset_of, load_headers}
 use Rattle.link_meaning.specs.LinkValues.{EquateAnswer}
-use Rattle.link_meaning.specs.LinkedCells.{LinkState, zeros, made, state_after_item, state_from, member_cells, bank_of, table_number}
+use Rattle.link_meaning.specs.LinkedCells.{LinkState, zeros, made, state_after_item, state_from, member_cells, table_number}
 use Rattle.link_meaning.specs.LinkWritten.{AreMade}
 use Rattle.link_meaning.specs.laws.MadeLaws.{length-made, length-zeros}
 use Rattle.link_meaning.specs.laws.PlaceFits.{following-le, in_parts}
@@ -19,9 +19,8 @@ use Rattle.link_meaning.specs.laws.ReadMembers.{read_size, read_some}
 use Rattle.link_meaning.specs.laws.LinkedRuns.{item}
 use Rattle.link_meaning.specs.laws.LinkedWalk.{state_of, own_items, member_state, cells_of_member, none_before, made_more}
 use Rattle.link_content.specs.Holding.{Holding}
-use Rattle.link_content.specs.declared.fit.LoadLimits.{LoadLimits}
-use Rattle.link_content.specs.declared.record.MemberTarget.{MemberTarget}
-use Rattle.link_values.specs.declared.member_place.MemberPlace.{MemberPlace}
+use Rattle.link_content.specs.declared.context.LinkContext.{LinkContext}
+use Rattle.link_program.specs.declared.member_place.MemberPlace.{MemberPlace}
 use Rattle.link_program.specs.OfFiles.{IsOfFiles}
 use Rattle.link_content.specs.Contents.{HoldsCells}
 use Rattle.link_content.specs.Fits.{to_load_limits}
@@ -94,22 +93,19 @@ module _ (list : List Member) (reported : List EquateAnswer) (front : List Membe
       }
 
   -- where a record is
-  pub stands_at : (back : List Member) (member_place : MemberPlace) (s : Segment) (first targets : List Target) (before : List Cell) (begin content : Holding) (done : List (ℕ × Record)) (found : ℕ × Record) (loads : List LoadLimits) (site : MemberTarget) (location : ℕ)
-      → Begins list reported front m back member_place s first before begin → Puts list reported front m done targets before content → loads ≡ map to_load_limits (load_headers list)
-      → site.table ≡ table_number list → site.own ≡ member_place.load_segment → site.bank_size ≡ bank_of (load_headers list) member_place.load_segment → site.offset ≡ member_place.offset → location ≡ place_after 0 done
-      → StandsAt list reported (state_after_records list reported front m done) (item (length front + 1) m (one_located found (place_after 0 done))) site (setting_in list) loads targets before location content
-  stands_at back member_place s first targets before begin content done found loads site location b p loads_are table own bank offset here = record {
-    setting' = refl;
-    loads' = loads_are;
-    site' = record {
-      table' = table;
-      own' = own ∙ b.is.load;
-      bank_size' = bank ∙ ap (bank_of (load_headers list)) b.is.load;
-      offset' = offset ∙ b.is.offset' ∙ ap (λ (n : ℕ). offset_of list n m) b.place;
-    };
+  pub stands_at : (back : List Member) (member_place : MemberPlace) (s : Segment) (first targets : List Target) (before : List Cell) (begin content : Holding) (done : List (ℕ × Record)) (found : ℕ × Record) (context : LinkContext) (location : ℕ)
+      → list ≡ context.program.now → Begins list reported front m back member_place s first before begin → Puts list reported front m done targets before content → context.loads.now ≡ map to_load_limits (load_headers list)
+      → context.table ≡ table_number list → location ≡ place_after 0 done
+      → StandsAt list reported (state_after_records list reported front m done) (item (length front + 1) m (one_located found (place_after 0 done))) context (record { member = member_place; location = location }) targets before content
+  stands_at back member_place s first targets before begin content done found context location same b p loads table here = record {
+    setting' = ap setting_in same;
+    loads' = loads;
+    table' = table;
+    member' = b.is;
+    place' = b.place;
     location' = sym here;
     targets' = sym p.targets';
-    front' = b.size ∙ sym offset;
+    front' = b.size;
     holds = p.holds;
   }
 

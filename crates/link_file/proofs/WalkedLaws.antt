@@ -28,11 +28,11 @@ use Rattle.link_meaning.specs.EmitFaults.{HasValueFault}
 use Rattle.link_meaning.specs.laws.EmitFaultLaws.{made_none, fine_failed}
 use Rattle.link_meaning.specs.laws.PlaceFits.{in_parts, name_there}
 use Rattle.link_content.specs.Holding.{Holding}
-use Rattle.link_values.specs.declared.member_place.MemberPlace.{MemberPlace}
+use Rattle.link_program.specs.declared.member_place.MemberPlace.{MemberPlace}
 use Rattle.link_content.specs.Contents.{HoldsCells}
 use Rattle.link_file.specs.Images.{HoldLinked}
 use Rattle.link_program.specs.Linked.{member_at}
-use Rattle.link_values.specs.MemberPlaces.{IsMemberPlace, MemberPlaceOf}
+use Rattle.link_program.specs.MemberPlaces.{IsMemberPlace, MemberPlaceOf}
 use Rattle.link_file.specs.Walks.{Unmade, StandsAfter, PutsMember, HoldsAfter, HoldAfter, IsWalkedTo, AreEmpty, IsFilled}
 use Rattle.link_values.proofs.FileFacts.{parts_there}
 use Rattle.link_values.proofs.LocatedLaws.{made-append}

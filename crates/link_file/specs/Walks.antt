@@ -24,23 +24,29 @@ use Rattle.link_meaning.specs.LinkFaults.{spot_in}
 use Rattle.link_tables.specs.Coming.{Coming}
 use Rattle.link_program.specs.Memory.{memory_fault}
 use Rattle.link_content.specs.Holding.{Holding}
-use Rattle.link_values.specs.declared.member_place.MemberPlace.{MemberPlace}
+use Rattle.link_program.specs.declared.member_place.MemberPlace.{MemberPlace}
 use Rattle.link_content.specs.Contents.{HoldsCells}
 use Rattle.link_file.specs.Images.{HoldLinked}
-use Rattle.link_content.specs.declared.fit.LoadLimits.{LoadLimits}
-use Rattle.link_values.specs.declared.slots.ValueSlot.{ValueSlot}
 use Rattle.link_program.specs.OfFiles.{IsOfFiles}
 use Rattle.link_content.specs.Fits.{to_load_limits}
-use Rattle.link_values.specs.MemberPlaces.{IsMemberPlace, AreKnown}
+use Rattle.link_program.specs.MemberPlaces.{IsMemberPlace}
+use Rattle.link_program.specs.Outside.{all_found}
+use Rattle.link_values.specs.Slots.{rows_of}
+use Rattle.link_values.specs.Surroundings.{AreKnown}
+use Rattle.link_file.specs.declared.walk.WalkContext.{WalkContext}
 
 -- ---- what records meet
 
 -- the list is that of files, its definitions have these values, its load segments' headers are so kept, and the table has this number
-pub record IsWhole (list : List Member) (slots : List ValueSlot) (loads : List LoadLimits) (table : ℕ) : Type 0 where
-  pub files : IsOfFiles list
-  pub known : AreKnown list slots
-  pub loads' : loads ≡ map to_load_limits (load_headers list)
-  pub table' : table ≡ table_number list
+pub record IsWhole (context : WalkContext) : Type 0 where
+  pub files : IsOfFiles context.link.program.now
+  pub known : AreKnown context.link.program.now context.slots.now
+  pub loads' : context.link.loads.now ≡ map to_load_limits (load_headers context.link.program.now)
+  pub table' : context.link.table ≡ table_number context.link.program.now
+
+-- what the equates are worth there
+abbrev pub answers_in : WalkContext → List EquateAnswer
+answers_in context = rows_of (all_found context.link.program.now) context.slots.now
 
 -- ---- the records of one member
 

@@ -14,10 +14,10 @@ ghost use Rattle.link_values.specs.Slots.{rows_of};
 
 use crate::exports::exports_text;
 use crate::file::write_linked;
-use crate::image::ImageFault;
-use crate::walk::{LinkContext, fill};
+use crate::image::{ImageFault, LoadImages};
+use crate::walk::{WalkContext, fill};
 use jump_table::Table;
-use link_content::LoadLimits;
+use link_content::{LinkContext, LoadLimits};
 use link_meaning::{LinkCause, LinkFault};
 use link_program::{Program, memory_fault};
 use link_values::{ValueSlot, values_of};
@@ -75,14 +75,16 @@ pub fn emit(alloc: Global, program: &Program) -> Result<Vec<u8>, LinkFault>
             return Err(memory_fault());
         }
     };
-    let whole = LinkContext {
-        program,
+    let context = WalkContext {
+        link: LinkContext {
+            program,
+            loads: loads.as_slice(),
+            table: headers.len() as u16 + 1,
+        },
         slots: slots.as_slice(),
-        loads: loads.as_slice(),
-        table: headers.len() as u16 + 1,
     };
     let mut table = Table::new(alloc);
-    let contents = match fill(alloc, &whole, &mut table) {
+    let contents = match fill(alloc, &context, &mut table) {
         Ok(contents) => contents,
         Err(fault) => {
             drop(table);
@@ -91,7 +93,7 @@ pub fn emit(alloc: Global, program: &Program) -> Result<Vec<u8>, LinkFault>
             return Err(fault);
         }
     };
-    let exports = match exports_text(alloc, &whole) {
+    let exports = match exports_text(alloc, &context) {
         Ok(exports) => exports,
         Err(_) => {
             drop(contents);
@@ -101,14 +103,12 @@ pub fn emit(alloc: Global, program: &Program) -> Result<Vec<u8>, LinkFault>
             return Err(memory_fault());
         }
     };
-    match write_linked(
-        alloc,
+    let images = LoadImages {
         headers,
-        contents.as_slice(),
-        exports.as_slice(),
-        &table,
-        program,
-    ) {
+        contents: contents.as_slice(),
+        exports: exports.as_slice(),
+    };
+    match write_linked(alloc, images, &table, program) {
         Ok(output) => Ok(output),
         Err(ImageFault::TooLong) => Err(too_long()),
         Err(ImageFault::Memory) => Err(memory_fault()),
@@ -117,7 +117,11 @@ pub fn emit(alloc: Global, program: &Program) -> Result<Vec<u8>, LinkFault>
 
 /// The places that the records of a program call through the jump table, in order of first call, where its names have these values.
 /// Otherwise the first fault of a record.
-pub fn calls_of(alloc: Global, program: &Program, slots: &[ValueSlot]) -> Result<Table, LinkFault>
+pub fn calls_of<'e>(
+    alloc: Global,
+    program: &'e Program,
+    slots: &'e [ValueSlot],
+) -> Result<Table, LinkFault>
     requires { AreValues program.now slots.now }
     ensures made { IfOk result (λ table. table ≡ targets program.now (rows_of (all_found program.now) slots.now)) }
     ensures refused { IfErr result (λ fault. IsEmitRefused program.now fault) }
@@ -128,14 +132,16 @@ pub fn calls_of(alloc: Global, program: &Program, slots: &[ValueSlot]) -> Result
         Ok(loads) => loads,
         Err(_) => return Err(memory_fault()),
     };
-    let whole = LinkContext {
-        program,
+    let context = WalkContext {
+        link: LinkContext {
+            program,
+            loads: loads.as_slice(),
+            table: headers.len() as u16 + 1,
+        },
         slots,
-        loads: loads.as_slice(),
-        table: headers.len() as u16 + 1,
     };
     let mut table = Table::new(alloc);
-    match fill(alloc, &whole, &mut table) {
+    match fill(alloc, &context, &mut table) {
         Ok(contents) => {
             drop(contents);
             Ok(table)

@@ -16,12 +16,12 @@ ghost use Rattle.link_meaning.specs.laws.Steps.{exports_for};
 ghost use Rattle.link_program.specs.Outside.{all_found};
 ghost use Rattle.link_content.specs.Fits.{to_load_limits};
 ghost use Rattle.link_values.specs.Slots.{AreOnce, AreSlots, rows_of};
-ghost use Rattle.link_values.specs.MemberPlaces.{AreKnown};
+ghost use Rattle.link_values.specs.Surroundings.{AreKnown};
 ghost use Rattle.link_file.specs.Images.{spelled_records};
-ghost use Rattle.link_file.specs.Walks.{IsWhole};
+ghost use Rattle.link_file.specs.Walks.{IsWhole, answers_in};
 ghost use Rattle.link_file.specs.Exported.{is_public, seen_name, IsSeen, DefinesSeen, entry_with, IsExported, StandsBefore};
 
-use crate::walk::LinkContext;
+use crate::walk::WalkContext;
 use link_content::{LoadLimits, length_of};
 use link_meaning::LinkForm;
 use link_program::next_record;
@@ -170,18 +170,18 @@ fn put_export(
 /// Appends the ENTRY record of the definition with this number, where all see it and its value is a place that is exported.
 fn put_seen(
     out: &mut Vec<u8>,
-    whole: &LinkContext,
+    context: &WalkContext,
     number: usize,
     seen: ExportsSeen,
 ) -> Result<(), PutFault>
-    requires whole { IsWhole whole.now.program.now whole.now.slots.now whole.now.loads.now whole.now.table }
+    requires whole { IsWhole context.now }
     requires named { IsName 0 seen.name.now }
-    ensures { OnOk result ((f : FoundDefinition) → slice_get (entries whole.now.program.now) number ≡ Some f → IsSeen f.definition (seen_name seen.entry)
-        → IsExported whole.now.program.now (rows_of (all_found whole.now.program.now) whole.now.slots.now) number out.old.items
-        → IsExported whole.now.program.now (rows_of (all_found whole.now.program.now) whole.now.slots.now) (number + 1) out.new.items) }
+    ensures { OnOk result ((f : FoundDefinition) → slice_get (entries context.now.link.program.now) number ≡ Some f → IsSeen f.definition (seen_name seen.entry)
+        → IsExported context.now.link.program.now (answers_in context.now) number out.old.items
+        → IsExported context.now.link.program.now (answers_in context.now) (number + 1) out.new.items) }
 {
     if seen.public {
-        return put_export(out, whole.loads, whole.slots, number, seen.name);
+        return put_export(out, context.link.loads, context.slots, number, seen.name);
     }
     Ok(())
 }
@@ -189,20 +189,20 @@ fn put_seen(
 /// Appends the ENTRY record of a segment's name, and returns the number after it.
 fn put_title(
     out: &mut Vec<u8>,
-    whole: &LinkContext,
+    context: &WalkContext,
     segment: &SegmentView,
     first: usize,
 ) -> Result<usize, PutFault>
-    requires whole { IsWhole whole.now.program.now whole.now.slots.now whole.now.loads.now whole.now.table }
-    requires stands { StandsBefore whole.now.program.now (segment_of_view segment.now) first }
-    requires exported { IsExported whole.now.program.now (rows_of (all_found whole.now.program.now) whole.now.slots.now) first out.old.items }
+    requires whole { IsWhole context.now }
+    requires stands { StandsBefore context.now.link.program.now (segment_of_view segment.now) first }
+    requires exported { IsExported context.now.link.program.now (answers_in context.now) first out.old.items }
     ensures next { IfOk result (λ next. next ≡ first + length (title_of (segment_of_view segment.now))) }
-    ensures exported { IfOk result (λ next. IsExported whole.now.program.now (rows_of (all_found whole.now.program.now) whole.now.slots.now) next out.new.items) }
+    ensures exported { IfOk result (λ next. IsExported context.now.link.program.now (answers_in context.now) next out.new.items) }
 {
-    let _count = whole.slots.len();
+    let _count = context.slots.len();
     match title_seen(segment) {
         Some(seen) => {
-            put_seen(out, whole, first, seen)?;
+            put_seen(out, context, first, seen)?;
             Ok(first + 1)
         }
         None => Ok(first),
@@ -213,27 +213,27 @@ fn put_title(
 /// last.
 fn put_segment(
     out: &mut Vec<u8>,
-    whole: &LinkContext,
+    context: &WalkContext,
     segment: &SegmentView,
     first: usize,
 ) -> Result<usize, PutFault>
-    requires whole { IsWhole whole.now.program.now whole.now.slots.now whole.now.loads.now whole.now.table }
+    requires whole { IsWhole context.now }
     requires sound { IsSound segment.now }
-    requires stands { StandsBefore whole.now.program.now (segment_of_view segment.now) first }
-    requires exported { IsExported whole.now.program.now (rows_of (all_found whole.now.program.now) whole.now.slots.now) first out.old.items }
+    requires stands { StandsBefore context.now.link.program.now (segment_of_view segment.now) first }
+    requires exported { IsExported context.now.link.program.now (answers_in context.now) first out.old.items }
     ensures next { IfOk result (λ next. next ≡ first + length (defined_in (segment_of_view segment.now))) }
-    ensures exported { IfOk result (λ next. IsExported whole.now.program.now (rows_of (all_found whole.now.program.now) whole.now.slots.now) next out.new.items) }
+    ensures exported { IfOk result (λ next. IsExported context.now.link.program.now (answers_in context.now) next out.new.items) }
 {
-    let _count = whole.slots.len();
+    let _count = context.slots.len();
     let _names = segment.header.lab_len;
-    let mut number = put_title(out, whole, segment, first)?;
+    let mut number = put_title(out, context, segment, first)?;
     let mut records = segment.records();
     'walk: loop {
         match next_record(&mut records) {
             None => return Ok(number),
             Some((_, rec)) => match seen_in(&rec) {
                 Some(seen) => {
-                    put_seen(out, whole, number, seen)?;
+                    put_seen(out, context, number, seen)?;
                     number += 1;
                 }
                 None => {}
@@ -244,24 +244,24 @@ fn put_segment(
 
 /// The ENTRY records of a program, one after another: of a run-time library file those of its public names whose values are places, in list
 /// and record order.
-pub fn exports_text(alloc: Global, whole: &LinkContext) -> Result<Vec<u8>, PutFault>
-    requires { IsWhole whole.now.program.now whole.now.slots.now whole.now.loads.now whole.now.table }
-    ensures { IfOk result (λ text. text.items ≡ spelled_records (exports_for (form_in whole.now.program.now) 1
-        (exports whole.now.program.now (rows_of (all_found whole.now.program.now) whole.now.slots.now)))) }
+pub fn exports_text(alloc: Global, context: &WalkContext) -> Result<Vec<u8>, PutFault>
+    requires { IsWhole context.now }
+    ensures { IfOk result (λ text. text.items ≡ spelled_records (exports_for (form_in context.now.link.program.now) 1
+        (exports context.now.link.program.now (answers_in context.now)))) }
 {
     let mut out = Vec::new(alloc);
-    match whole.program.form() {
+    match context.link.program.form() {
         LinkForm::Program => return Ok(out),
         LinkForm::Runtime => {}
     }
     let mut number = 0;
     let mut place = 0;
-    'members: while place < whole.program.members() {
-        let segment = match whole.program.view(place + 1) {
+    'members: while place < context.link.program.members() {
+        let segment = match context.link.program.view(place + 1) {
             Some(segment) => segment,
             None => unreachable!(),
         };
-        number = put_segment(&mut out, whole, segment, number)?;
+        number = put_segment(&mut out, context, segment, number)?;
         place += 1;
     }
     Ok(out)

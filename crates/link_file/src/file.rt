@@ -14,7 +14,7 @@ ghost use Rattle.link_content.specs.Contents.{HoldsCells};
 ghost use Rattle.link_program.specs.OfFiles.{IsOfFiles};
 ghost use Rattle.link_file.specs.Images.{AreReady, AreLoads, images_after, linked_exports};
 
-use crate::image::{ImageFault, put_image, put_images};
+use crate::image::{ImageFault, LoadImages, put_image, put_images};
 use crate::pathnames::put_pathnames;
 use jump_table::Table;
 use link_content::LoadContent;
@@ -102,27 +102,32 @@ fn put_rest(
     put_pathnames(alloc, out, number_after(number, table), program)
 }
 
-/// The load file of a program whose load segments have these headers, contents and exports, and whose jump table has these targets. It
-/// is too long where the file that the linker writes exceeds 16,777,216 bytes.
+/// The load file of a program whose load segments are these, and whose jump table has these targets. It is too long where the file that
+/// the linker writes exceeds 16,777,216 bytes.
 pub fn write_linked(
     alloc: Global,
-    headers: &[Header],
-    contents: &[LoadContent<'_>],
-    exports: &[u8],
+    images: LoadImages,
     table: &Table,
     program: &Program,
 ) -> Result<Vec<u8>, ImageFault>
-    requires ready { AreReady headers.now contents.now }
-    requires few { length headers.now + 2 < 2 ^ 16 }
+    requires ready { AreReady images.headers.now images.contents.now }
+    requires few { length images.headers.now + 2 < 2 ^ 16 }
     requires files { IsOfFiles program.now }
-    ensures ok { IfOk result (λ file. (reported : List EquateAnswer) → AreLoads program.now reported headers.now contents.now → exports.now ≡ linked_exports program.now reported
+    ensures ok { IfOk result (λ file. (reported : List EquateAnswer) → AreLoads program.now reported images.entry.headers.now images.entry.contents.now → images.entry.exports.now ≡ linked_exports program.now reported
         → table.now ≡ targets program.now reported → file.items ≡ written_file program.now reported) }
     ensures short { IfOk result (λ file. length file.items ≤ 0x1000000) }
-    ensures too_long { IsErrOf result ImageFault.TooLong → (reported : List EquateAnswer) → AreLoads program.now reported headers.now contents.now
-        → exports.now ≡ linked_exports program.now reported → table.now ≡ targets program.now reported → most_bytes < length (written_file program.now reported) }
+    ensures too_long { IsErrOf result ImageFault.TooLong → (reported : List EquateAnswer) → AreLoads program.now reported images.entry.headers.now images.entry.contents.now
+        → images.entry.exports.now ≡ linked_exports program.now reported → table.now ≡ targets program.now reported → most_bytes < length (written_file program.now reported) }
 {
     let mut file = Vec::new(alloc);
-    put_images(alloc, &mut file, headers, contents, exports)?;
-    put_rest(alloc, &mut file, headers.len() as u16 + 1, table, program)?;
+    put_images(
+        alloc,
+        &mut file,
+        images.headers,
+        images.contents,
+        images.exports,
+    )?;
+    let number = images.headers.len() as u16 + 1;
+    put_rest(alloc, &mut file, number, table, program)?;
     Ok(file)
 }

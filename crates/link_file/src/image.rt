@@ -1,6 +1,6 @@
 //! Load segments, as they are written one after another.
 
-ghost use Rattle.std.specs.Prelude.{◌≡◌, ◌≤◌, ◌+◌, ◌<◌, ◌^◌, ◌++◌, IfOk, IfErr, OnOk, IsErrOf, MatchOption, Some, length, map, slice_get, replicate, List};
+ghost use Rattle.std.specs.Prelude.{◌≡◌, ◌≤◌, ◌+◌, ◌<◌, ◌^◌, ◌++◌, IfOk, IfErr, OnOk, IsErrOf, MatchOption, Some, length, map, slice_get, List};
 ghost use Rattle.omf_header.specs.View.{fields};
 ghost use Rattle.load_meaning.specs.WrittenBody.{AreWritten, body_text, written_cells, zeros_after};
 ghost use Rattle.load_meaning.specs.WrittenFile.{image_text, file_text};
@@ -15,6 +15,14 @@ use omf_header::{
     recall_header_size,
 };
 use std::alloc::{AllocError, AllocFailed, Global};
+
+/// Load segments that are to be written: their headers and contents, and the ENTRY records of the first.
+#[derive(Clone, Copy)]
+pub struct LoadImages<'e, 'a> {
+    pub headers: &'e [Header],
+    pub contents: &'e [LoadContent<'a>],
+    pub exports: &'e [u8],
+}
 
 /// Why no load segment is written.
 #[derive(Clone, Copy, Debug, PartialEq, Eq)]
@@ -97,24 +105,20 @@ fn put_content(
     }
 }
 
-/// Appends room for a header, a body after it, and after that what the segment exports. The answer is how many zero bytes are after the
-/// body's data in memory.
+/// Appends a body, and after it what the segment exports. The answer is how many zero bytes are after the body's data in memory.
 fn put_after(
     alloc: Global,
     out: &mut Vec<u8>,
-    room: usize,
     own: u16,
     content: &LoadContent<'_>,
     exports: &[u8],
 ) -> Result<u32, ImageFault>
-    requires room { length out.old.items + room < 2 ^ 33 }
     requires small { length (content.now).bytes ≤ 0xFFFFFF }
     requires patches { AreWritten (length (content.now).bytes) 0 (map seen (content.now).patches) }
-    ensures bytes { OnOk result (out.new.items ≡ out.old.items ++ replicate room 0 ++ (body_text own (content.now).bytes (map seen (content.now).patches) ++ exports.now)) }
+    ensures bytes { OnOk result (out.new.items ≡ out.old.items ++ (body_text own (content.now).bytes (map seen (content.now).patches) ++ exports.now)) }
     ensures zeros { IfOk result (λ zeros. zeros ≡ zeros_after (written_cells (content.now).bytes (map seen (content.now).patches))) }
     ensures memory_alone { IfErr result (λ fault. fault ≡ ImageFault.Memory) }
 {
-    put_room(out, room)?;
     let zeros = put_content(alloc, out, own, content)?;
     out.extend_from_slice(exports)?;
     Ok(zeros)
@@ -141,7 +145,8 @@ pub fn put_image(
         return Err(ImageFault::TooLong);
     }
     let room = header_size(&header.name);
-    let zeros = put_after(alloc, out, room, header.seg_num, content, exports)?;
+    put_room(out, room)?;
+    let zeros = put_after(alloc, out, header.seg_num, content, exports)?;
     let size = out.as_slice().len() - start - room;
     let front = header_before(alloc, header, zeros, size)?;
     close_segment(out, start, front.as_slice())?;

@@ -1,67 +1,55 @@
 //! The walk over the records of all members, which fills the load segments and the jump table.
 
-ghost use Rattle.std.specs.Prelude.{◌≡◌, ◌⊎◌, ◌+◌, ◌-◌, ◌<◌, ◌≤◌, ◌^◌, ◌++◌, ◌∷◌, ℕ, List, IfErr, IfOk, OnOk, length, map};
+ghost use Rattle.std.specs.Prelude.{◌≡◌, ◌⊎◌, ◌+◌, ◌-◌, ◌<◌, ◌≤◌, ◌^◌, ◌++◌, ◌∷◌, ℕ, List, IfErr, IfOk, OnOk, length};
 ghost use Rattle.omf_records.specs.Segments.{IsSound, segment_of_view};
 ghost use Rattle.omf_records.specs.View.{view};
 ghost use Rattle.load_meaning.specs.Cells.{Cell};
 ghost use Rattle.link_meaning.specs.declared.fault.LinkCause.TheVariants as causes;
 ghost use Rattle.link_meaning.specs.Member.{Member};
-ghost use Rattle.link_program.specs.Outside.{all_found};
-ghost use Rattle.link_meaning.specs.LinkedCells.{Item, bank_of};
+ghost use Rattle.link_meaning.specs.LinkedCells.{Item};
 ghost use Rattle.link_tables.specs.Uses.{HasSpelling};
-ghost use Rattle.link_values.specs.Slots.{rows_of};
-ghost use Rattle.link_values.specs.MemberPlaces.{IsMemberPlace};
+ghost use Rattle.link_program.specs.MemberPlaces.{IsMemberPlace};
 ghost use Rattle.link_content.specs.Records.{IsWorth};
-ghost use Rattle.link_file.specs.Walks.{IsWhole, Begins, HasBegun, Puts, StandsAfter, HasStood, PutsMember, Unmade, IsReportedAt, IsWalkedTo, IsValueRefused};
+ghost use Rattle.link_file.specs.Walks.{IsWhole, answers_in, Begins, HasBegun, Puts, StandsAfter, HasStood, PutsMember, Unmade, IsReportedAt, IsWalkedTo, IsValueRefused};
 
 use jump_table::Table;
-use link_content::{LoadContent, LoadLimits, MemberTarget, put_record};
+use link_content::{LinkContext, LoadContent, LoadLimits, RecordPlace, ValuedRecord, put_record};
 use link_meaning::{LinkCause, LinkFault};
-use link_program::{Program, memory_fault, next_record, size_at};
-use link_values::{MemberPlace, ValueSlot, place_of_member, value_in};
+use link_program::{MemberPlace, Program, memory_fault, next_record, place_of_member, size_at};
+use link_values::{ValueSlot, value_in};
 use omf_base::Spot;
 use omf_format::{Value, ValueFault};
 use omf_records::{Rec, SegmentView};
 use std::alloc::{AllocError, Global};
 
-/// What the records of all members meet.
-#[derive(Drop)]
-pub struct LinkContext<'e, 'a> {
-    pub program: &'e Program<'a>,
-    /// The values of all definitions.
+/// What the walk meets: what all records meet, and the values of all definitions.
+#[derive(Clone, Copy)]
+pub struct WalkContext<'e, 'a> {
+    pub link: LinkContext<'e, 'a>,
     pub slots: &'e [ValueSlot],
-    /// What is kept of the load segments' headers.
-    pub loads: &'e [LoadLimits],
-    /// The number of the load segment that is the jump table, after all others.
-    pub table: u16,
 }
 
 /// The value of a record's expression; a number, where the record has none.
-fn value_of(
-    whole: &LinkContext,
-    member_place: MemberPlace,
-    location: u32,
-    rec: &Rec,
-) -> Result<Value, ValueFault>
-    requires whole { IsWhole whole.now.program.now whole.now.slots.now whole.now.loads.now whole.now.table }
-    requires spelled { HasSpelling member_place.lab_len (view rec.now) }
-    requires near { member_place.offset + location < 2 ^ 32 }
-    ensures { (i : Item) → IsMemberPlace whole.now.program.now i.member member_place → member_place.place ≡ i.place → i.here.location ≡ location
-        → IsWorth whole.now.program.now (rows_of (all_found whole.now.program.now) whole.now.slots.now) i (view rec.now) result }
+fn value_of(context: &WalkContext, place: RecordPlace, rec: &Rec) -> Result<Value, ValueFault>
+    requires whole { IsWhole context.now }
+    requires spelled { HasSpelling place.member.lab_len (view rec.now) }
+    requires near { place.member.offset + place.location < 2 ^ 32 }
+    ensures { (i : Item) → IsMemberPlace context.now.link.program.now i.member place.member → place.member.place ≡ i.place → i.here.location ≡ place.location
+        → IsWorth context.now.link.program.now (answers_in context.now) i (view rec.now) result }
 {
     match rec {
         Rec::Formula { expr, .. } => value_in(
-            whole.program,
-            whole.slots,
-            member_place,
-            location,
+            context.link.program,
+            context.slots,
+            place.member,
+            place.location,
             expr,
         ),
         Rec::Equate { expr, .. } => value_in(
-            whole.program,
-            whole.slots,
-            member_place,
-            location,
+            context.link.program,
+            context.slots,
+            place.member,
+            place.location,
             expr,
         ),
         Rec::End
@@ -82,62 +70,38 @@ fn value_of(
     }
 }
 
-ghost use Rattle.link_content.specs.Fits.{to_load_limits};
-
-/// BANKSIZE of the load segment with this number.
-fn bank_of(loads: &[LoadLimits], number: u16) -> u32
-    ensures { (headers : List HeaderFields) → loads.now ≡ map to_load_limits headers → result ≡ bank_of headers number }
-{
-    match loads.get(usize::from(number).saturating_sub(1)) {
-        Some(load) => load.bank_size,
-        None => 0,
-    }
-}
-
-ghost use Rattle.omf_format.specs.Header.{HeaderFields};
-
 /// Puts what the records of a member give, after what its load segment holds up to the member's offset. The fault is the first one's, with
 /// its displacement.
 fn put_records<'a>(
-    whole: &LinkContext<'_, 'a>,
+    context: &WalkContext<'_, 'a>,
     member_place: MemberPlace,
     segment: &SegmentView<'a>,
     content: &mut LoadContent<'a>,
     table: &mut Table,
 ) -> Result<(), (LinkCause, u32)>
-    requires whole { IsWhole whole.now.program.now whole.now.slots.now whole.now.loads.now whole.now.table }
+    requires whole { IsWhole context.now }
     requires sound { IsSound segment.now }
-    requires begun { HasBegun whole.now.program.now (rows_of (all_found whole.now.program.now) whole.now.slots.now) member_place (segment_of_view segment.now) table.old content.old }
+    requires begun { HasBegun context.now.link.program.now (answers_in context.now) member_place (segment_of_view segment.now) table.old content.old }
     ensures ok { OnOk result ((front : List Member) (m : Member) (back : List Member) (before : List Cell)
-        → Begins whole.now.program.now (rows_of (all_found whole.now.program.now) whole.now.slots.now) front m back member_place (segment_of_view segment.now) table.old before content.old
-        → Puts whole.now.program.now (rows_of (all_found whole.now.program.now) whole.now.slots.now) front m (segment_of_view segment.now).records table.new before content.new) }
+        → Begins context.now.link.program.now (answers_in context.now) front m back member_place (segment_of_view segment.now) table.old before content.old
+        → Puts context.now.link.program.now (answers_in context.now) front m (segment_of_view segment.now).records table.new before content.new) }
     ensures err { IfErr result (λ fault. (front : List Member) (m : Member) (back : List Member) (before : List Cell)
-        → Begins whole.now.program.now (rows_of (all_found whole.now.program.now) whole.now.slots.now) front m back member_place (segment_of_view segment.now) table.old before content.old
-        → (fault.0 ≡ causes.Memory) ⊎ Unmade whole.now.program.now (rows_of (all_found whole.now.program.now) whole.now.slots.now) front m fault.0 fault.1) }
+        → Begins context.now.link.program.now (answers_in context.now) front m back member_place (segment_of_view segment.now) table.old before content.old
+        → (fault.0 ≡ causes.Memory) ⊎ Unmade context.now.link.program.now (answers_in context.now) front m fault.0 fault.1) }
 {
-    let site = MemberTarget {
-        table: whole.table,
-        own: member_place.load_segment,
-        bank_size: bank_of(whole.loads, member_place.load_segment),
-        offset: member_place.offset,
-    };
     let mut records = segment.records();
     let mut location = 0;
     'walk: loop {
         match next_record(&mut records) {
             None => return Ok(()),
             Some((at, rec)) => {
-                let value = value_of(whole, member_place, location, &rec);
-                match put_record(
-                    content,
-                    table,
-                    whole.program,
-                    whole.loads,
-                    site,
+                let place = RecordPlace {
+                    member: member_place,
                     location,
-                    &rec,
-                    value,
-                ) {
+                };
+                let value = value_of(context, place, &rec);
+                let record = ValuedRecord { rec: &rec, value };
+                match put_record(&context.link, place, record, content, table) {
                     Ok(()) => {}
                     Err(cause) => return Err((cause, at)),
                 }
@@ -149,25 +113,25 @@ fn put_records<'a>(
 
 /// Puts what a member gives: zeros up to its offset, what its records give, and RESSPC zeros.
 fn put_segment<'a>(
-    whole: &LinkContext<'_, 'a>,
+    context: &WalkContext<'_, 'a>,
     member_place: MemberPlace,
     segment: &SegmentView<'a>,
     content: &mut LoadContent<'a>,
     table: &mut Table,
 ) -> Result<(), (LinkCause, u32)>
-    requires whole { IsWhole whole.now.program.now whole.now.slots.now whole.now.loads.now whole.now.table }
+    requires whole { IsWhole context.now }
     requires sound { IsSound segment.now }
-    requires stood { HasStood whole.now.program.now (rows_of (all_found whole.now.program.now) whole.now.slots.now) member_place (segment_of_view segment.now) table.old content.old }
+    requires stood { HasStood context.now.link.program.now (answers_in context.now) member_place (segment_of_view segment.now) table.old content.old }
     ensures ok { OnOk result ((front : List Member) (m : Member) (back : List Member) (cells : List Cell)
-        → StandsAfter whole.now.program.now (rows_of (all_found whole.now.program.now) whole.now.slots.now) front m back member_place (segment_of_view segment.now) table.old cells content.old
-        → PutsMember whole.now.program.now (rows_of (all_found whole.now.program.now) whole.now.slots.now) front m table.new cells content.new) }
+        → StandsAfter context.now.link.program.now (answers_in context.now) front m back member_place (segment_of_view segment.now) table.old cells content.old
+        → PutsMember context.now.link.program.now (answers_in context.now) front m table.new cells content.new) }
     ensures err { IfErr result (λ fault. (front : List Member) (m : Member) (back : List Member) (cells : List Cell)
-        → StandsAfter whole.now.program.now (rows_of (all_found whole.now.program.now) whole.now.slots.now) front m back member_place (segment_of_view segment.now) table.old cells content.old
-        → (fault.0 ≡ causes.Memory) ⊎ Unmade whole.now.program.now (rows_of (all_found whole.now.program.now) whole.now.slots.now) front m fault.0 fault.1) }
+        → StandsAfter context.now.link.program.now (answers_in context.now) front m back member_place (segment_of_view segment.now) table.old cells content.old
+        → (fault.0 ≡ causes.Memory) ⊎ Unmade context.now.link.program.now (answers_in context.now) front m fault.0 fault.1) }
 {
     let gap = member_place.offset as usize - content.len();
     content.put_zeros(gap);
-    put_records(whole, member_place, segment, content, table)?;
+    put_records(context, member_place, segment, content, table)?;
     content.put_zeros(segment.header.res_spc as usize);
     Ok(())
 }
@@ -231,30 +195,30 @@ ghost use Rattle.link_program.specs.Linked.{member_at};
 
 /// Puts what the member at a place, from 1, gives, after what the members before it gave.
 fn put_member<'a>(
-    whole: &LinkContext<'_, 'a>,
+    context: &WalkContext<'_, 'a>,
     place: u32,
     contents: &mut Vec<LoadContent<'a>>,
     table: &mut Table,
 ) -> Result<(), LinkFault>
-    requires whole { IsWhole whole.now.program.now whole.now.slots.now whole.now.loads.now whole.now.table }
+    requires whole { IsWhole context.now }
     requires first { 1 ≤ place }
-    requires inside { place ≤ length whole.now.program.now }
-    requires walked { IsWalkedTo whole.now.program.now (rows_of (all_found whole.now.program.now) whole.now.slots.now) (place - 1) table.old contents.old.items }
-    ensures ok { OnOk result (IsWalkedTo whole.now.program.now (rows_of (all_found whole.now.program.now) whole.now.slots.now) place table.new contents.new.items) }
-    ensures err { IfErr result (λ fault. IsValueRefused whole.now.program.now (rows_of (all_found whole.now.program.now) whole.now.slots.now) fault) }
+    requires inside { place ≤ length context.now.link.program.now }
+    requires walked { IsWalkedTo context.now.link.program.now (answers_in context.now) (place - 1) table.old contents.old.items }
+    ensures ok { OnOk result (IsWalkedTo context.now.link.program.now (answers_in context.now) place table.new contents.new.items) }
+    ensures err { IfErr result (λ fault. IsValueRefused context.now.link.program.now (answers_in context.now) fault) }
 {
-    let member_place = match place_of_member(whole.program, place) {
+    let member_place = match place_of_member(context.link.program, place) {
         Some(member_place) => member_place,
         None => unreachable!(),
     };
-    let segment = match whole.program.view(place) {
+    let segment = match context.link.program.view(place) {
         Some(segment) => segment,
         None => unreachable!(),
     };
     let number = usize::from(member_place.load_segment) - 1;
-    match put_segment(whole, member_place, segment, &mut contents[number], table) {
+    match put_segment(context, member_place, segment, &mut contents[number], table) {
         Ok(()) => Ok(()),
-        Err((cause, at)) => Err(value_fault(whole.program, place, cause, at)),
+        Err((cause, at)) => Err(value_fault(context.link.program, place, cause, at)),
     }
 }
 
@@ -284,22 +248,22 @@ ghost use Rattle.link_file.specs.Walks.{AreEmpty, IsFilled};
 /// The load segments with the cells of all members, and the jump table; or the first fault of a record.
 pub fn fill<'a>(
     alloc: Global,
-    whole: &LinkContext<'_, 'a>,
+    context: &WalkContext<'_, 'a>,
     table: &mut Table,
 ) -> Result<Vec<LoadContent<'a>>, LinkFault>
-    requires whole { IsWhole whole.now.program.now whole.now.slots.now whole.now.loads.now whole.now.table }
+    requires whole { IsWhole context.now }
     requires empty { table.old ≡ [] }
-    ensures ok { IfOk result (λ contents. IsFilled whole.now.program.now (rows_of (all_found whole.now.program.now) whole.now.slots.now) table.new contents.items) }
-    ensures err { IfErr result (λ fault. IsValueRefused whole.now.program.now (rows_of (all_found whole.now.program.now) whole.now.slots.now) fault) }
+    ensures ok { IfOk result (λ contents. IsFilled context.now.link.program.now (answers_in context.now) table.new contents.items) }
+    ensures err { IfErr result (λ fault. IsValueRefused context.now.link.program.now (answers_in context.now) fault) }
 {
-    let mut contents = match no_contents(alloc, whole.loads) {
+    let mut contents = match no_contents(alloc, context.link.loads) {
         Ok(contents) => contents,
         Err(_) => return Err(memory_fault()),
     };
     let mut place = 0;
-    'members: while place < whole.program.members() {
+    'members: while place < context.link.program.members() {
         place += 1;
-        put_member(whole, place, &mut contents, table)?;
+        put_member(context, place, &mut contents, table)?;
     }
     Ok(contents)
 }

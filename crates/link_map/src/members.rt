@@ -73,26 +73,29 @@ fn put_members(line: &mut Line, values: &EquateValues, number: u32) -> Result<()
     Ok(())
 }
 
-/// Appends the line of a load segment: its number, LENGTH, KIND, ALIGN and SEGNAME.
+/// What the line of a load segment shows: its number, LENGTH, KIND, ALIGN and SEGNAME.
+#[derive(Clone, Copy)]
+pub struct LoadLine<'e> {
+    pub number: u32,
+    pub length: u32,
+    pub kind: u16,
+    pub align: u32,
+    pub name: &'e [u8],
+}
+
+/// Appends the line of a load segment.
 #[tactic(auto, unfolding(crate::specs::MapText::load_line))]
-pub fn put_load_line(
-    line: &mut Line,
-    number: u32,
-    size: u32,
-    kind: u16,
-    align: u32,
-    name: &[u8],
-) -> Result<(), LineFault>
-    ensures { OnOk result (line.new ≡ line.old ++ load_line number size kind align name.now) }
+pub fn put_load_line(line: &mut Line, load: LoadLine) -> Result<(), LineFault>
+    ensures { OnOk result (line.new ≡ line.old ++ load_line load.entry.number load.entry.length load.entry.kind load.entry.align load.entry.name.now) }
 {
     line.text("load ")?;
-    line.dec(number)?;
-    put_labelled(line, " length ", size)?;
+    line.dec(load.number)?;
+    put_labelled(line, " length ", load.length)?;
     line.text(" kind ")?;
-    line.hex(u32::from(kind), 4)?;
-    put_labelled(line, " align ", align)?;
+    line.hex(u32::from(load.kind), 4)?;
+    put_labelled(line, " align ", load.align)?;
     line.text(" name ")?;
-    put_quoted(line, name)?;
+    put_quoted(line, load.name)?;
     line.text("\n")
 }
 
@@ -107,14 +110,14 @@ fn put_load(line: &mut Line, values: &EquateValues, number: u32) -> Result<(), L
         Some(header) => header,
         None => unreachable!(),
     };
-    put_load_line(
-        line,
+    let load = LoadLine {
         number,
-        header.length,
-        header.kind.bits,
-        header.align,
-        header.name.bytes(),
-    )?;
+        length: header.length,
+        kind: header.kind.bits,
+        align: header.align,
+        name: header.name.bytes(),
+    };
+    put_load_line(line, load)?;
     put_members(line, values, number)
 }
 

@@ -4,7 +4,7 @@ ghost use Rattle.std.specs.Prelude.{◌≡◌, ◌++◌, ◌<◌, map, OnOk};
 ghost use Rattle.load_meaning.specs.Table.{most_entries, file_entry, IsTableOf};
 ghost use Rattle.link_map.specs.MapText.{numbered_texts, entry_line, table_text};
 
-use crate::members::put_load_line;
+use crate::members::{LoadLine, put_load_line};
 use dump_lines::put_field;
 use jump_table::{Table, Target, target_at};
 use omf_base::{Line, LineFault};
@@ -54,6 +54,13 @@ pub fn put_table(
         Ok(bytes) => bytes,
         Err(_) => return Err(LineFault::Memory),
     };
-    put_load_line(line, number, bytes.len() as u32, 0x0002, 0, b"~JumpTable")?;
+    let load = LoadLine {
+        number,
+        length: bytes.len() as u32,
+        kind: 0x0002,
+        align: 0,
+        name: b"~JumpTable",
+    };
+    put_load_line(line, load)?;
     put_entries(line, number, table, bytes.as_slice())
 }

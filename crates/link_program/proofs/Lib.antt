@@ -11,6 +11,7 @@ pub mod OpeningLaws
 pub mod RowLaws
 pub mod AmongLaws
 pub mod ProgramLaws
+pub mod MemberPlaceLaws
 pub mod MemberLaws
 pub mod BodyLengths
 pub mod GrowLaws

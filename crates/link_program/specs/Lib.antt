@@ -9,5 +9,6 @@ pub mod Opening
 pub mod OfFiles
 pub mod UsesResolve
 pub mod Programs
+pub mod MemberPlaces
 pub mod Finding
 pub mod Grown

@@ -6,6 +6,7 @@ mod files;
 mod finding;
 mod growing;
 mod linked;
+mod member_place;
 mod memory;
 mod outside;
 mod program;
@@ -17,6 +18,7 @@ pub use link_tables::{
     size_after, size_at,
 };
 pub use linked::Linked;
+pub use member_place::{MemberPlace, place_of_member};
 pub use memory::memory_fault;
 pub use outside::OutsideNames;
 pub use program::{Definition, LinkMember, Program, ResolvedProgram};

@@ -34,8 +34,8 @@ use Rattle.link_values.specs.declared.slots.ValueSlot.{ValueSlot}
 use Rattle.link_values.specs.declared.slots.ValueSlot.TheVariants.{Open, Done, Failed}
 use Rattle.link_program.specs.OfFiles.{IsOfFiles}
 use Rattle.link_values.specs.Slots.{answer_of, row_of, rows_of, label_place, AreSlots, AreOnce}
-use Rattle.link_values.specs.declared.member_place.MemberPlace.{MemberPlace}
-use Rattle.link_values.specs.MemberPlaces.{IsMemberPlace, MemberPlaceOf}
+use Rattle.link_program.specs.declared.member_place.MemberPlace.{MemberPlace}
+use Rattle.link_program.specs.MemberPlaces.{IsMemberPlace, MemberPlaceOf}
 use Rattle.link_values.specs.Circulars.{IsCircularAt}
 use Rattle.link_values.specs.Equates.{IsFirstSlot, AreFirstSlots, IsOpen, AreTrue, IsRow, AreRows, AreSettled, open_count, with_slot, AreValues, IsCycleRefused}
 use Rattle.link_values.proofs.SlotLaws.{or_open, row_views, has_slot}

@@ -1,7 +1,7 @@
 pub mod Coming
 pub mod AllFound
 pub mod SlotLaws
-pub mod MemberPlaceLaws
+pub mod SurroundingLaws
 pub mod ValueLaws
 pub mod FileFacts
 pub mod EquateLaws

@@ -19,12 +19,13 @@ use Rattle.link_meaning.specs.LinkValues.{EquateAnswer, value_of_definition, pla
 use Rattle.link_meaning.specs.laws.Steps.{fault_found, tree_value, has_expr}
 use Rattle.link_program.specs.Linked.{member_at}
 use Rattle.link_program.specs.Finding.{IsFirstOf, finds_for}
-use Rattle.link_values.specs.declared.member_place.MemberPlace.{MemberPlace}
+use Rattle.link_program.specs.declared.member_place.MemberPlace.{MemberPlace}
 use Rattle.link_values.specs.declared.slots.ValueSlot.{ValueSlot}
 use Rattle.link_values.specs.Slots.{answer_of, label_place, AreOnce, AreSlots, rows_of}
-use Rattle.link_values.specs.MemberPlaces.{IsMemberPlace, environment_in_member, Surroundings, environment_of}
+use Rattle.link_program.specs.MemberPlaces.{IsMemberPlace}
+use Rattle.link_values.specs.Surroundings.{environment_in_member, Surroundings, environment_of}
 use Rattle.link_values.specs.Operands.{operand, operand_in}
-use Rattle.link_values.proofs.MemberPlaceLaws.{meets_there}
+use Rattle.link_values.proofs.SurroundingLaws.{meets_there}
 use Rattle.link_values.proofs.SlotLaws.{or_open, row_views, label_slot}
 
 -- ---- operands by their places

@@ -17,7 +17,7 @@ use Rattle.link_values.specs.declared.slots.ValueSlot.TheVariants.{Open, Done, F
 use Rattle.cycles.specs.Graphs.{row_at}
 use Rattle.cycles.specs.Graphs as cycle_order
 use Rattle.link_values.specs.Slots.{answer_of, rows_of, label_place}
-use Rattle.link_values.specs.MemberPlaces.{AreKnown}
+use Rattle.link_values.specs.Surroundings.{AreKnown}
 
 -- a definition's slot at first: a label has its place, and an equate is open
 pub record IsFirstSlot (list : List Member) (f : FoundDefinition) (slot : ValueSlot) : Type 0 where

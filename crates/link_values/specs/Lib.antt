@@ -1,5 +1,5 @@
 pub mod Slots
-pub mod MemberPlaces
+pub mod Surroundings
 pub mod Operands
 pub mod Equates
 pub mod Circulars

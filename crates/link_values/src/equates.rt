@@ -15,12 +15,11 @@ ghost use Rattle.link_values.specs.Equates.{IsFirstSlot, AreFirstSlots, IsOpen, 
 
 use crate::circular::cycle_fault;
 use crate::leads::leads_of;
-use crate::member_place::place_of_member;
 use crate::slots::ValueSlot;
 use crate::value::{place_at, value_in};
 use cycles::{Edges, first_cycle, order_of};
 use link_meaning::LinkFault;
-use link_program::{Definition, Program, memory_fault};
+use link_program::{Definition, Program, memory_fault, place_of_member};
 use omf_format::{Value, ValueFault};
 use std::alloc::{AllocError, Global};
 

@@ -14,10 +14,9 @@ ghost use Rattle.link_program.specs.OfFiles.{IsOfFiles};
 ghost use Rattle.link_values.specs.Equates.{AreFirstSlots, IsRow, AreRows, NameRow, FindOne};
 
 use crate::equates::is_open;
-use crate::member_place::place_of_member;
 use crate::slots::ValueSlot;
 use cycles::Edges;
-use link_program::{Definition, Program, expression_of};
+use link_program::{Definition, MemberPlace, Program, expression_of, place_of_member};
 use omf_expr::Term;
 use std::alloc::{AllocError, Global};
 
@@ -51,25 +50,24 @@ fn add_lead(
     }
 }
 
-/// Adds the numbers of the equates that the names of an expression find.
+/// Adds the numbers of the equates that the names of an expression find in its member.
 fn add_leads(
     program: &Program,
     slots: &[ValueSlot],
-    place: u32,
-    lab_len: u8,
+    member_place: MemberPlace,
     expr: &[u8],
     row: &mut Vec<usize>,
 ) -> Result<(), AllocError>
     requires slots { AreFirstSlots program.now (all_found program.now) slots.now }
-    requires spelled { IsExpression lab_len expr.now }
-    ensures { OnOk result ((m : Member) → member_at program.now place ≡ Some m → FindOne program.now place m (flat_map (λ placed. asks_value placed.1) (terms_in lab_len 0 expr.now))
-        → row.old.items ≡ [] → NameRow program.now place m (flat_map (λ placed. asks_value placed.1) (terms_in lab_len 0 expr.now)) row.new.items) }
+    requires spelled { IsExpression member_place.lab_len expr.now }
+    ensures { OnOk result ((m : Member) → member_at program.now member_place.place ≡ Some m → FindOne program.now member_place.place m (flat_map (λ placed. asks_value placed.1) (terms_in member_place.lab_len 0 expr.now))
+        → row.old.items ≡ [] → NameRow program.now member_place.place m (flat_map (λ placed. asks_value placed.1) (terms_in member_place.lab_len 0 expr.now)) row.new.items) }
 {
-    let mut terms = expression_of(expr, lab_len).terms();
+    let mut terms = expression_of(expr, member_place.lab_len).terms();
     'terms: loop {
         match terms.next() {
             None => return Ok(()),
-            Some((_, term)) => add_lead(program, slots, place, term, row)?,
+            Some((_, term)) => add_lead(program, slots, member_place.place, term, row)?,
         }
     }
 }
@@ -90,14 +88,7 @@ fn find_row(
     match definition.expr {
         None => Ok(()),
         Some(expr) => match place_of_member(program, definition.member) {
-            Some(member_place) => add_leads(
-                program,
-                slots,
-                member_place.place,
-                member_place.lab_len,
-                expr,
-                row,
-            ),
+            Some(member_place) => add_leads(program, slots, member_place, expr, row),
             None => unreachable!(),
         },
     }

@@ -1,16 +1,14 @@
-//! What the expressions of a program are worth: where its members are, the values of its definitions, and of the terms of an expression in
-//! a member; or the first equate that leads back to itself.
+//! What the expressions of a program are worth: the values of its definitions, and of the terms of an expression in a member; or the first
+//! equate that leads back to itself.
 #![tactic(auto)]
 
 mod circular;
 mod equates;
 mod leads;
 mod member_env;
-mod member_place;
 mod slots;
 mod value;
 
 pub use equates::values_of;
-pub use member_place::{MemberPlace, place_of_member};
 pub use slots::{ValueSlot, label_of};
 pub use value::{place_at, value_in};

@@ -21,7 +21,7 @@ pub struct MemberEnv<'e, 'a> {
 }
 
 impl<'e, 'a> Model for MemberEnv<'e, 'a> {
-    ghost use Rattle.link_values.specs.MemberPlaces.{Surroundings, AreKnown};
+    ghost use Rattle.link_values.specs.Surroundings.{Surroundings, AreKnown};
 
     ghost Value = { Surroundings };
 
@@ -31,7 +31,7 @@ impl<'e, 'a> Model for MemberEnv<'e, 'a> {
 }
 
 impl<'e, 'a> MemberEnv<'e, 'a> {
-    ghost use Rattle.link_values.specs.MemberPlaces.{AreKnown};
+    ghost use Rattle.link_values.specs.Surroundings.{AreKnown};
 
     /// What an expression meets in the member at a place, from 1, where these are the values of all definitions.
     pub fn new(
@@ -68,7 +68,7 @@ fn attribute_of(term: u8, definition: &Definition) -> u32
 }
 
 impl<'e, 'a> Env for MemberEnv<'e, 'a> {
-    ghost use Rattle.link_values.specs.MemberPlaces.{environment_of};
+    ghost use Rattle.link_values.specs.Surroundings.{environment_of};
 
     ghost meaning = { environment_of };
 

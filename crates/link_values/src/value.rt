@@ -3,6 +3,7 @@
 ghost use Rattle.std.specs.Prelude.{◌≡◌, ◌+◌, ◌<◌, ◌^◌, ℕ, List, Some, option_map};
 ghost use Rattle.omf_format.specs.Expression.{Tree, Spells, IsExpression, terms_in};
 ghost use Rattle.omf_expr.specs.View.{view};
+ghost use Rattle.omf_format.specs.declared.value.ValueFault.TheVariants.{Unknown};
 ghost use Rattle.link_meaning.specs.Member.{Member};
 ghost use Rattle.link_meaning.specs.Search.{FoundDefinition};
 ghost use Rattle.link_program.specs.Outside.{all_found};
@@ -11,13 +12,13 @@ ghost use Rattle.link_meaning.specs.LinkValues.{fault_named, place_value, value_
 ghost use Rattle.link_meaning.specs.laws.Steps.{fault_found};
 ghost use Rattle.link_program.specs.Finding.{IsFirstOf};
 ghost use Rattle.link_values.specs.Slots.{AreOnce, AreSlots, rows_of};
-ghost use Rattle.link_values.specs.MemberPlaces.{IsMemberPlace, AreKnown};
+ghost use Rattle.link_program.specs.MemberPlaces.{IsMemberPlace};
+ghost use Rattle.link_values.specs.Surroundings.{AreKnown};
 ghost use Rattle.link_values.specs.Operands.{operand, operand_in};
 
 use crate::member_env::MemberEnv;
-use crate::member_place::MemberPlace;
 use crate::slots::ValueSlot;
-use link_program::{Program, expression_of};
+use link_program::{MemberPlace, Program, expression_of};
 use omf_expr::{Expr, Term, evaluate};
 use omf_format::{Value, ValueFault};
 
@@ -83,19 +84,19 @@ fn fault_of(slots: &[ValueSlot], found: Option<usize>, fault: ValueFault) -> Val
     }
 }
 
-/// The fault of a name at a place among the expression's bytes that has no value: that of its equate.
+/// The fault of a name at a place among the expression's bytes that has no value: that of its equate, or that it is unknown.
 fn fault_at(
     program: &Program,
     slots: &[ValueSlot],
     place: u32,
     expr: &Expr,
     at: usize,
-    fault: ValueFault,
 ) -> ValueFault
     requires { AreKnown program.now slots.now }
     ensures { (m : Member) (tree : Tree) → member_at program.now place ≡ Some m → Spells expr.now.lab_len expr.now.text tree
-        → result ≡ fault_named program.now (rows_of (all_found program.now) slots.now) place m fault (term_at expr.now.lab_len at 0 tree) }
+        → result ≡ fault_named program.now (rows_of (all_found program.now) slots.now) place m (Unknown at) (term_at expr.now.lab_len at 0 tree) }
 {
+    let fault = ValueFault::Unknown(at);
     match operand_at(expr, at) {
         Some(Term::Named(code, name)) => {
             if code <= 0x83 {
@@ -136,13 +137,8 @@ pub fn value_in(
         Ok(value) => Ok(value),
         Err(ValueFault::DivideByZero) => Err(ValueFault::DivideByZero),
         Err(ValueFault::NotRelocatable) => Err(ValueFault::NotRelocatable),
-        Err(ValueFault::Unknown(at)) => Err(fault_at(
-            program,
-            slots,
-            member_place.place,
-            &text,
-            at,
-            ValueFault::Unknown(at),
-        )),
+        Err(ValueFault::Unknown(at)) => {
+            Err(fault_at(program, slots, member_place.place, &text, at))
+        }
     }
 }

@@ -12,7 +12,7 @@ use Rattle.load_meaning.specs.laws.Steps.{stored_bytes}
 use Rattle.load_meaning.specs.laws.FormLaws.{length-stored}
 use Rattle.load_meaning.specs.laws.StoredLaws.{length-data}
 use Rattle.load_writer.specs.WrittenParts.{end_after, IsKept}
-use Rattle.load_writer.proofs.KeptLaws.{end_low, kept_is}
+use Rattle.load_writer.proofs.KeptLaws.{end_low, end_within, kept_is}
 
 -- ---- a prefix of bytes with a piece over them
 
@@ -59,6 +59,10 @@ in_front n size low (p ∷ patches) are end =
       inside = omega (arith, end_low size (p.location + p.count) patches are.2, end);
     } in
     (here, are.1, in_front n size (p.location + p.count) patches are.2 end)
+
+-- what is written over at most $FFFFFF bytes lies inside so many
+pub written_small : (size : ℕ) (patches : List Patch) → size ≤ 0xFFFFFF → AreWritten size 0 patches → AreWritten 0xFFFFFF 0 patches
+written_small size patches small are = in_front 0xFFFFFF size 0 patches are (omega (arith, small, end_within size 0 patches (omega arith) are))
 
 -- ---- the data
 

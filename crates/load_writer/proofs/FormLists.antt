@@ -1,15 +1,19 @@
 -- Locations by type: those that were put in, and those of the patches that are left.
-use Rattle.std.proofs.Common.{◌≡◌, ℕ, zero, suc, ◌+◌, ◌<◌, true, false, eqb, List, [], ◌∷◌, ◌++◌, length, map, replicate, get_or, set, Option, Some, refl, sym, ap, ◌∙◌, append_assoc, arith}
+use Rattle.std.proofs.Common.{◌≡◌, ℕ, zero, suc, ◌+◌, ◌<◌, true, false, eqb, List, [], ◌∷◌, ◌++◌, length, map, replicate, get_or, set, Option, Some, None, refl, sym, ap, ◌∙◌, append_assoc, arith}
 use Rattle.std.specs.Prelude.{slice_get}
 use Rattle.std.proofs.lemmas.Bool.{eq-eqb, ne_eqb}
 use Rattle.std.proofs.lemmas.List.{append-nil, map-set, length-map}
+use Rattle.std.proofs.lemmas.List.Concat.{flat_map-cons}
 use Rattle.std.proofs.lemmas.Option.{get_or_from_slice_get}
+use Rattle.std.specs.List.{flat_map}
+use Rattle.omf_format.specs.Field.{written_layout}
+use Rattle.omf_format.specs.Record.{spelling}
 use Rattle.load_meaning.specs.Cells.{Patch}
 use Rattle.load_meaning.specs.laws.FormLaws as forms
 use Rattle.load_meaning.specs.laws.WrittenBodyLaws.{form_below}
-use Rattle.load_meaning.specs.WrittenBody.{super_form, of_form}
+use Rattle.load_meaning.specs.WrittenBody.{super_form, of_form, patches_stored_alone, lone_record, super_records}
 use Rattle.load_meaning.specs.laws.Steps.{is_form}
-use Rattle.load_writer.specs.WrittenParts.{places, places_from, locations_by_form, put_in}
+use Rattle.load_writer.specs.WrittenParts.{places, places_from, locations_by_form, put_in, super_of}
 
 -- after the locations of each type, those of the patches that are left
 abbrev pub with_left : ℕ → List Patch → ℕ → List (List ℕ) → List (List ℕ)
@@ -166,3 +170,50 @@ there_is seen lists own patches form k v all is lt there =
 
 pub lists_size : {V : Type 0} (seen : V → List ℕ) (lists : List V) (own : ℕ) (patches : List Patch) → map seen lists ≡ locations_by_form own patches → length lists ≡ 38
 lists_size seen lists own patches all = sym (length-map lists seen) ∙ ap length all ∙ length-by_form own patches
+
+-- ---- patches that are in no SUPER
+
+-- one isn't among those of any type
+left_lone : (own form : ℕ) (p : Patch) (left : List Patch) (lists : List (List ℕ)) → super_form own p ≡ None → with_left own (p ∷ left) form lists ≡ with_left own left form lists
+left_lone own form p left [] e = refl
+left_lone own form p left (l ∷ lists) e =
+    ap (λ (m : List Patch). (l ++ places m) ∷ with_left own (p ∷ left) (form + 1) lists) (other_form own form p left (ap (is_form form) e))
+    ∙ ap (λ (m : List (List ℕ)). (l ++ places (of_form own left form)) ∷ m) (left_lone own (form + 1) p left lists e)
+
+pub lone_left : (own : ℕ) (p : Patch) (rest left : List Patch) (lists whole : List (List ℕ)) → super_form own p ≡ None → left ≡ p ∷ rest → with_left own left 0 lists ≡ whole → with_left own rest 0 lists ≡ whole
+lone_left own p rest left lists whole e is all = sym (left_lone own 0 p rest lists e) ∙ ap (λ (l : List Patch). with_left own l 0 lists) (sym is) ∙ all
+
+-- what the records of these spell
+abbrev pub lone_text : ℕ → List Patch → List ℕ
+lone_text own left = flat_map (spelling written_layout) (map (lone_record own) (patches_stored_alone own left))
+
+alone_first : (own : ℕ) (p : Patch) (rest : List Patch) → super_form own p ≡ None → lone_text own (p ∷ rest) ≡ spelling written_layout (lone_record own p) ++ lone_text own rest
+alone_first own p rest e =
+    ap (λ (l : List Patch). flat_map (spelling written_layout) (map (lone_record own) l)) (kept e) ∙ flat_map-cons (spelling written_layout) (lone_record own p) (map (lone_record own) (patches_stored_alone own rest))
+  where
+    kept : super_form own p ≡ None → patches_stored_alone own (p ∷ rest) ≡ p ∷ patches_stored_alone own rest
+    kept e = rw e refl
+
+-- one more was put
+pub lone_put : (own : ℕ) (p : Patch) (rest left : List Patch) (old new whole : List ℕ) → super_form own p ≡ None → left ≡ p ∷ rest → new ≡ old ++ spelling written_layout (lone_record own p)
+    → old ++ lone_text own left ≡ whole → new ++ lone_text own rest ≡ whole
+lone_put own p rest left old new whole e is put all =
+    ap (λ (l : List ℕ). l ++ lone_text own rest) put
+    ∙ append_assoc old (spelling written_layout (lone_record own p)) (lone_text own rest)
+    ∙ ap (λ (l : List ℕ). old ++ l) (sym (alone_first own p rest e))
+    ∙ ap (λ (l : List Patch). old ++ lone_text own l) (sym is)
+    ∙ all
+
+-- one that is in a SUPER gives none
+pub lone_passed : (own form : ℕ) (p : Patch) (rest left : List Patch) (old whole : List ℕ) → super_form own p ≡ Some form → left ≡ p ∷ rest → old ++ lone_text own left ≡ whole → old ++ lone_text own rest ≡ whole
+lone_passed own form p rest left old whole e is all =
+    ap (λ (l : List Patch). old ++ flat_map (spelling written_layout) (map (lone_record own) l)) (sym (dropped e)) ∙ ap (λ (l : List Patch). old ++ lone_text own l) (sym is) ∙ all
+  where
+    dropped : super_form own p ≡ Some form → patches_stored_alone own (p ∷ rest) ≡ patches_stored_alone own rest
+    dropped e = rw e refl
+
+-- ---- the SUPER of a type
+
+pub super_is : (form : ℕ) (ps : List Patch) → super_of form (places ps) ≡ super_records form ps
+super_is form [] = refl
+super_is form (p ∷ ps) = refl

@@ -2,6 +2,8 @@
 use Rattle.std.specs.Prelude.{◌≡◌, ◌⊎◌, ℕ, zero, suc, ◌+◌, ◌-◌, ◌/◌, ◌≤◌, ◌<◌, List, [], ◌∷◌, ◌++◌, length, map, Some, slice_get, ◌==◌, if◌then◌else◌}
 use Rattle.load_meaning.specs.Cells as format
 use Rattle.load_meaning.specs.WrittenBody.{of_form}
+use Rattle.load_meaning.specs.WrittenPages.{pages_text}
+use Rattle.omf_format.specs.Record.{Record, Super}
 use Rattle.load_writer.specs.declared.written.Patch.{Patch}
 
 -- a patch of file 1, as the format defines it
@@ -47,3 +49,8 @@ put_in (l ∷ lists) (suc k) at = l ∷ put_in lists k at
 -- the list is a prefix of another
 abbrev pub IsFront : List ℕ → List ℕ → Type 0
 IsFront front whole = (rest : List ℕ) × (whole ≡ front ++ rest)
+
+-- one SUPER of these locations, where there are any
+abbrev pub super_of : ℕ → List ℕ → List Record
+super_of form [] = []
+super_of form (at ∷ more) = Super form (pages_text (at ∷ more)) ∷ []

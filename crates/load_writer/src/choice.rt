@@ -54,24 +54,12 @@ pub fn super_form(own: u16, patch: &Patch) -> Option<u8>
     None
 }
 
-/// The patch is in the SUPER of this type.
-pub fn has_form(own: u16, patch: &Patch, form: u8) -> bool
-    ensures { result ≡ is_form form (super_form own (seen patch.now)) }
+/// The patch is in the SUPER of type 2, which holds those in another segment with three bytes and no shift.
+#[tactic(auto, unfolding(load_meaning::specs::WrittenBody::super_form))]
+pub fn is_far(own: u16, patch: &Patch) -> bool
+    ensures { result ≡ is_form 2 (super_form own (seen patch.now)) }
 {
-    match super_form(own, patch) {
-        Some(other) => other == form,
-        None => false,
-    }
-}
-
-/// The patch is in no SUPER.
-pub fn is_lone(own: u16, patch: &Patch) -> bool
-    ensures { result ≡ (is_none (super_form own (seen patch.now))) }
-{
-    match super_form(own, patch) {
-        Some(_) => false,
-        None => true,
-    }
+    patch.segment != own && patch.segment <= 255 && has_shape(patch, 3, 0)
 }
 
 /// The record of a patch alone.

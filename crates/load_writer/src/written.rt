@@ -3,13 +3,14 @@
 ghost use Rattle.std.specs.Prelude.{◌≡◌, ◌≤◌, ◌++◌, length, map, IfOk, OnOk, OnErr};
 ghost use Rattle.std.specs.List.{flat_map};
 ghost use Rattle.omf_format.specs.Field.{written_layout};
-ghost use Rattle.omf_format.specs.Record.{spelling};
-ghost use Rattle.load_meaning.specs.WrittenBody.{AreWritten, zeros_after, written_cells, of_form, lone_record, super_records, supers_from, body_text};
+ghost use Rattle.omf_format.specs.Record.{spelling, IsRecord, Super};
+ghost use Rattle.load_meaning.specs.WrittenBody.{AreWritten, zeros_after, written_cells, lone_record, supers_from, body_text};
 ghost use Rattle.load_meaning.specs.laws.Steps.{patches_stored_alone};
-ghost use Rattle.load_writer.specs.WrittenParts.{seen, places, IsFront};
+ghost use Rattle.load_writer.specs.WrittenParts.{seen, IsFront, locations_by_form, super_of};
+ghost use Rattle.load_meaning.specs.WrittenPages.{pages_text, Rise};
 
-use crate::by_form::by_form;
-use crate::choice::{is_lone, lone_record};
+use crate::by_form::{no_locations, put_in};
+use crate::choice::{lone_record, super_form};
 use crate::pages::pages;
 use crate::written_data::put_data;
 use omf_records::{PutFault, Rec, put_record};
@@ -78,37 +79,34 @@ impl From<PutFault> for BodyFault {
     }
 }
 
-/// Appends the records of the patches that are in no SUPER, in order.
+/// Appends the records of the patches that are in no SUPER, in order. The answer is the locations of the others, by the type of the SUPER.
 #[tactic(auto, using(crate::proofs::Fronts::front_whole, crate::proofs::Fronts::front_after))]
-fn put_lone(out: &mut Vec<u8>, own: u16, patches: &[Patch], size: usize) -> Result<(), BodyFault>
-    requires small { size ≤ 0xFFFFFF }
-    requires patches { AreWritten size 0 (map seen patches.now) }
-    ensures ok { OnOk result (out.new.items ≡ out.old.items ++ flat_map (spelling written_layout) (map (lone_record own) (patches_stored_alone own (map seen patches.now)))) }
-    ensures err { OnErr result (IsFront out.old.items out.new.items) }
-{
-    'patches: for patch in patches {
-        if !is_lone(own, patch) {
-            continue;
-        }
-        put_record(out, &lone_record(own, patch))?;
-    }
-    Ok(())
-}
-
-/// Appends the SUPER of a type with these locations, if there are any.
-fn put_super(
+fn put_lone(
     alloc: Global,
     out: &mut Vec<u8>,
     own: u16,
     patches: &[Patch],
-    form: u8,
-    locations: &[u32],
-    size: usize,
-) -> Result<(), BodyFault>
-    requires small { size ≤ 0xFFFFFF }
-    requires patches { AreWritten size 0 (map seen patches.now) }
-    requires locations { locations.now ≡ places (of_form own (map seen patches.now) form) }
-    ensures ok { OnOk result (out.new.items ≡ out.old.items ++ flat_map (spelling written_layout) (super_records form (of_form own (map seen patches.now) form))) }
+) -> Result<Vec<Vec<u32>>, BodyFault>
+    requires { AreWritten 0xFFFFFF 0 (map seen patches.now) }
+    ensures ok { OnOk result (out.new.items ≡ out.old.items ++ flat_map (spelling written_layout) (map (lone_record own) (patches_stored_alone own (map seen patches.now)))) }
+    ensures lists { IfOk result (λ lists. map (λ l. l.items) lists.items ≡ locations_by_form own (map seen patches.now)) }
+    ensures err { OnErr result (IsFront out.old.items out.new.items) }
+{
+    let mut lists = no_locations(alloc)?;
+    'patches: for patch in patches {
+        match super_form(own, patch) {
+            Some(form) => put_in(&mut lists, form, patch.at)?,
+            None => put_record(out, &lone_record(own, patch))?,
+        }
+    }
+    Ok(lists)
+}
+
+/// Appends the SUPER of a type with these locations, if there are any.
+fn put_super(alloc: Global, out: &mut Vec<u8>, form: u8, locations: &[u32]) -> Result<(), BodyFault>
+    requires rise { Rise 0 locations.now }
+    requires fits { 1 ≤ length locations.now → IsRecord written_layout (Super form (pages_text locations.now)) }
+    ensures ok { OnOk result (out.new.items ≡ out.old.items ++ flat_map (spelling written_layout) (super_of form locations.now)) }
     ensures err { OnErr result (out.new.items ≡ out.old.items) }
 {
     if locations.is_empty() {
@@ -123,25 +121,24 @@ fn put_super(
     Ok(())
 }
 
-/// Appends the SUPERs of all types in order.
+/// Appends the SUPERs of all types in order, with the locations of these patches.
 #[tactic(auto, using(crate::proofs::Fronts::front_whole, crate::proofs::Fronts::front_after))]
 fn put_supers(
     alloc: Global,
     out: &mut Vec<u8>,
     own: u16,
     patches: &[Patch],
-    size: usize,
+    lists: &[Vec<u32>],
 ) -> Result<(), BodyFault>
-    requires small { size ≤ 0xFFFFFF }
-    requires patches { AreWritten size 0 (map seen patches.now) }
+    requires patches { AreWritten 0xFFFFFF 0 (map seen patches.now) }
+    requires lists { map (λ l. l.items) lists.now ≡ locations_by_form own (map seen patches.now) }
     ensures ok { OnOk result (out.new.items ≡ out.old.items ++ flat_map (spelling written_layout) (supers_from own (map seen patches.now) 0 38)) }
     ensures err { OnErr result (IsFront out.old.items out.new.items) }
 {
-    let lists = by_form(alloc, own, patches)?;
     let mut form = 0u8;
     'forms: while form < 38 {
         let locations = &lists[usize::from(form)];
-        put_super(alloc, out, own, patches, form, locations, size)?;
+        put_super(alloc, out, form, locations)?;
         form += 1;
     }
     Ok(())
@@ -164,8 +161,8 @@ fn put_parts(
     ensures err { OnErr result (IsFront out.old.items out.new.items) }
 {
     let size = put_data(out, own, content, patches)?;
-    put_lone(out, own, patches, content.len())?;
-    put_supers(alloc, out, own, patches, content.len())?;
+    let lists = put_lone(alloc, out, own, patches)?;
+    put_supers(alloc, out, own, patches, lists.as_slice())?;
     Ok((content.len() - size) as u32)
 }
 

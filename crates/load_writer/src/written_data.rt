@@ -8,7 +8,7 @@ ghost use Rattle.load_writer.specs.WrittenParts.{seen, end_after, IsKept};
 ghost use Rattle.load_meaning.specs.WrittenBody.{AreWritten, with_stored, written_data, data_records};
 ghost use Rattle.load_meaning.specs.laws.Steps.{stored_bytes};
 
-use crate::choice::has_form;
+use crate::choice::is_far;
 use crate::written::{BodyFault, Patch};
 use omf_base::first_items;
 use omf_records::{Rec, put_record};
@@ -19,7 +19,7 @@ fn low_bytes(own: u16, patch: &Patch) -> [u8; 4]
     ensures { take (patch.now).count result ≡ stored_bytes own (seen patch.now) }
 {
     let [first, second, third, fourth] = patch.offset.to_le_bytes();
-    if has_form(own, patch, 2) {
+    if is_far(own, patch) {
         return [first, second, patch.segment as u8, 0];
     }
     [first, second, third, fourth]

@@ -10,7 +10,7 @@ use Rattle.link_content.proofs.fit.fit_value.Goals as goal
 
 pub returns-else-is_far : goal.returns-else-is_far
 returns-else-is_far c = λ headers targets before loads jsl.
-    let setting = setting_in c.args.program.now in
+    let setting = setting_in c.args.context.now.program.now in
     let frame = shown_frame setting c.args.frame in
     let formula = c.args.formula in
     let file = c.in-At.file in

@@ -7,11 +7,11 @@ use Rattle.link_file.proofs.LoadLaws.{headers_size}
 use Rattle.link_file.proofs.EmitLaws.{refused_value}
 use Rattle.link_file.proofs.emitting.calls_of.Goals as goal
 
-pub overflow_cast-whole : goal.overflow_cast-whole
-overflow_cast-whole c = omega (arith, few_of c.args.program.now c.know_files.ensures, headers_size c.args.program.now c.load_headers-headers.result.now c.load_headers-headers.ensures)
+pub overflow_cast-context : goal.overflow_cast-context
+overflow_cast-context c = omega (arith, few_of c.args.program.now c.know_files.ensures, headers_size c.args.program.now c.load_headers-headers.result.now c.load_headers-headers.ensures)
 
-pub overflow_add-whole : goal.overflow_add-whole
-overflow_add-whole c = omega (arith, few_of c.args.program.now c.know_files.ensures, headers_size c.args.program.now c.load_headers-headers.result.now c.load_headers-headers.ensures)
+pub overflow_add-context : goal.overflow_add-context
+overflow_add-context c = omega (arith, few_of c.args.program.now c.know_files.ensures, headers_size c.args.program.now c.load_headers-headers.result.now c.load_headers-headers.ensures)
 
 pub fill-requires-clause-whole : goal.fill-requires-clause-whole
 fill-requires-clause-whole c =

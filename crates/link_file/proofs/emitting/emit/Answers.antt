@@ -20,46 +20,46 @@ returns-in_err-slots-clause-refused c =
     let p = err_from_is_err_and c.from_residual.result c.from_residual.ensures.1 in
     rw (p.1, p.2) (refused_cycle c.args.program.now c.in_err-slots.field-0.0 c.in_err-slots.ensures.refused)
 
-pub overflow_cast-whole : goal.overflow_cast-whole
-overflow_cast-whole c = omega (arith, few_of c.args.program.now c.know_files.ensures, headers_size c.args.program.now c.load_headers-headers.result.now c.load_headers-headers.ensures)
+pub overflow_cast-context : goal.overflow_cast-context
+overflow_cast-context c = omega (arith, few_of c.args.program.now c.know_files.ensures, headers_size c.args.program.now c.load_headers-headers.result.now c.load_headers-headers.ensures)
 
-pub overflow_add-whole : goal.overflow_add-whole
-overflow_add-whole c = omega (arith, few_of c.args.program.now c.know_files.ensures, headers_size c.args.program.now c.load_headers-headers.result.now c.load_headers-headers.ensures)
+pub overflow_add-context : goal.overflow_add-context
+overflow_add-context c = omega (arith, few_of c.args.program.now c.know_files.ensures, headers_size c.args.program.now c.load_headers-headers.result.now c.load_headers-headers.ensures)
 
 pub fill-requires-clause-whole : goal.fill-requires-clause-whole
 fill-requires-clause-whole c =
     let list = c.args.program.now in
-    let values = subst (AreValues list) (sym c.as_slice.ensures.value) c.in_ok-slots.ensures.valued in
+    let values = subst (AreValues list) (sym c.as_slice-2.ensures.value) c.in_ok-slots.ensures.valued in
     record {
       files = c.know_files.ensures;
       known = values.known;
-      loads' = c.as_slice-2.ensures.value ∙ c.in-Ok.ensures ∙ ap (map to_load_limits) c.load_headers-headers.ensures;
+      loads' = c.as_slice.ensures.value ∙ c.in-Ok.ensures ∙ ap (map to_load_limits) c.load_headers-headers.ensures;
       table' = ap (λ (n : ℕ). n + 1) (headers_size list c.load_headers-headers.result.now c.load_headers-headers.ensures);
     }
 
 pub exports_text-requires : goal.exports_text-requires
 exports_text-requires c =
     let list = c.args.program.now in
-    let values = subst (AreValues list) (sym c.as_slice.ensures.value) c.in_ok-slots.ensures.valued in
+    let values = subst (AreValues list) (sym c.as_slice-2.ensures.value) c.in_ok-slots.ensures.valued in
     record {
       files = c.know_files.ensures;
       known = values.known;
-      loads' = c.as_slice-2.ensures.value ∙ c.in-Ok.ensures ∙ ap (map to_load_limits) c.load_headers-headers.ensures;
+      loads' = c.as_slice.ensures.value ∙ c.in-Ok.ensures ∙ ap (map to_load_limits) c.load_headers-headers.ensures;
       table' = ap (λ (n : ℕ). n + 1) (headers_size list c.load_headers-headers.result.now c.load_headers-headers.ensures);
     }
 
 pub returns-in-Err-fill-clause-refused : goal.returns-in-Err-fill-clause-refused
 returns-in-Err-fill-clause-refused c =
     let list = c.args.program.now in
-    let values = subst (AreValues list) (sym c.as_slice.ensures.value) c.in_ok-slots.ensures.valued in
-    refused_value list (rows_of (all_found list) c.as_slice.result.now) values.table c.in-Err-fill.fault c.in-Err-fill.ensures.err
+    let values = subst (AreValues list) (sym c.as_slice-2.ensures.value) c.in_ok-slots.ensures.valued in
+    refused_value list (rows_of (all_found list) c.as_slice-2.result.now) values.table c.in-Err-fill.fault c.in-Err-fill.ensures.err
 
 pub write_linked-requires-clause-ready : goal.write_linked-requires-clause-ready
 write_linked-requires-clause-ready c =
     let list = c.args.program.now in
-    let reported = rows_of (all_found list) c.as_slice.result.now in
+    let reported = rows_of (all_found list) c.as_slice-2.result.now in
     let headers = c.load_headers-headers.result.now in
-    let values = subst (AreValues list) (sym c.as_slice.ensures.value) c.in_ok-slots.ensures.valued in
+    let values = subst (AreValues list) (sym c.as_slice-2.ensures.value) c.in_ok-slots.ensures.valued in
     let filled = c.in-Ok-fill.ensures.ok in
     let loads : AreLoads list reported headers c.in-Ok-fill.contents.items = record { headers' = c.load_headers-headers.ensures; contents' = filled.holds } in
     subst (AreReady headers) (sym c.as_slice-3.ensures.value) (loads_ready c.know_files.ensures.given list reported headers c.in-Ok-fill.contents.items c.know_files.ensures.bytes c.know_files.ensures.resolved values.table filled.made' loads)
@@ -70,9 +70,9 @@ write_linked-requires-clause-few c = omega (arith, few_of c.args.program.now c.k
 pub returns-in-Ok-write_linked-clause-written : goal.returns-in-Ok-write_linked-clause-written
 returns-in-Ok-write_linked-clause-written c =
     let list = c.args.program.now in
-    let reported = rows_of (all_found list) c.as_slice.result.now in
+    let reported = rows_of (all_found list) c.as_slice-2.result.now in
     let headers = c.load_headers-headers.result.now in
-    let values = subst (AreValues list) (sym c.as_slice.ensures.value) c.in_ok-slots.ensures.valued in
+    let values = subst (AreValues list) (sym c.as_slice-2.ensures.value) c.in_ok-slots.ensures.valued in
     let filled = c.in-Ok-fill.ensures.ok in
     let loads : AreLoads list reported headers c.as_slice-3.result.now =
     subst (AreLoads list reported headers) (sym c.as_slice-3.ensures.value) (record { headers' = c.load_headers-headers.ensures; contents' = filled.holds }) in
@@ -82,9 +82,9 @@ returns-in-Ok-write_linked-clause-written c =
 pub returns-in-Err-TooLong-clause-refused : goal.returns-in-Err-TooLong-clause-refused
 returns-in-Err-TooLong-clause-refused c =
     let list = c.args.program.now in
-    let reported = rows_of (all_found list) c.as_slice.result.now in
+    let reported = rows_of (all_found list) c.as_slice-2.result.now in
     let headers = c.load_headers-headers.result.now in
-    let values = subst (AreValues list) (sym c.as_slice.ensures.value) c.in_ok-slots.ensures.valued in
+    let values = subst (AreValues list) (sym c.as_slice-2.ensures.value) c.in_ok-slots.ensures.valued in
     let filled = c.in-Ok-fill.ensures.ok in
     let loads : AreLoads list reported headers c.as_slice-3.result.now =
     subst (AreLoads list reported headers) (sym c.as_slice-3.ensures.value) (record { headers' = c.load_headers-headers.ensures; contents' = filled.holds }) in

@@ -13,8 +13,8 @@ use Rattle.link_file.proofs.exports.put_seen.Goals as goal
 
 pub returns-then-seen : goal.returns-then-seen
 returns-then-seen c =
-    let list = c.args.whole.now.program.now in
-    let reported = rows_of (all_found list) c.args.whole.now.slots.now in
+    let list = c.args.context.now.link.program.now in
+    let reported = rows_of (all_found list) c.args.context.now.slots.now in
     let out = c.args.out.now.items in
     on_ok c.put_export.result _ _
     (λ go f at seen is.
@@ -26,7 +26,7 @@ returns-then-seen c =
 
 pub returns : goal.returns
 returns c = λ f at seen is.
-    let list = c.args.whole.now.program.now in
-    let reported = rows_of (all_found list) c.args.whole.now.slots.now in
+    let list = c.args.context.now.link.program.now in
+    let reported = rows_of (all_found list) c.args.context.now.slots.now in
     let out = c.args.out.now.items in
     exported_more list reported c.args.number f out out at is (sym (append-nil out) ∙ ap (λ (rs : List Record). out ++ spelled_records rs) (sym (export_other list reported f (seen.public' ∙ c.if-seen.false))))

@@ -12,18 +12,18 @@ use Rattle.link_file.proofs.exports.put_segment.Goals as goal
 
 pub walk-init : goal.walk-init
 walk-init c =
-    let list = c.args.whole.now.program.now in
+    let list = c.args.context.now.link.program.now in
     record {
-      exporting = exporting_all list (rows_of (all_found list) c.args.whole.now.slots.now) (segment_of_view c.args.segment.now) c.args.first c.in_ok-number.number c.records-records.result c.put_title.new.out.items
+      exporting = exporting_all list (rows_of (all_found list) c.args.context.now.slots.now) (segment_of_view c.args.segment.now) c.args.first c.in_ok-number.number c.records-records.result c.put_title.new.out.items
           (coming_view c.args.segment.now c.records-records.result c.requires.sound c.records-records.ensures) c.in_ok-number.ensures.next c.in_ok-number.ensures.exported;
       layout = body_lab_len c.args.segment.now c.records-records.result c.records-records.ensures;
     }
 
 pub returns-in-None-clause-next : goal.returns-in-None-clause-next
 returns-in-None-clause-next c =
-    let list = c.args.whole.now.program.now in
+    let list = c.args.context.now.link.program.now in
     let e = c.walk.invariant.exporting in
-    exporting_end list (rows_of (all_found list) c.args.whole.now.slots.now) (segment_of_view c.args.segment.now) c.args.first c.walk.number c.walk.records c.walk.out.items e
+    exporting_end list (rows_of (all_found list) c.args.context.now.slots.now) (segment_of_view c.args.segment.now) c.args.first c.walk.number c.walk.records c.walk.out.items e
     (found_end c.walk.records c.next_record.new.records e.back c.next_record.result e.coming c.next_record.ensures.walk c.in-None.is)
 
 pub returns-in-None-clause-exported : goal.returns-in-None-clause-exported
@@ -38,17 +38,17 @@ put_seen-requires-clause-named c =
 
 pub overflow_add-number : goal.overflow_add-number
 overflow_add-number c =
-    let list = c.args.whole.now.program.now in
+    let list = c.args.context.now.link.program.now in
     let e = c.walk.invariant.exporting in
     let w = found_next c.walk.records c.next_record.new.records e.back c.next_record.result (c.in-Some.field-0-0, c.in-Some.rec) e.coming c.next_record.ensures.walk c.in-Some.is in
-    let f = exporting_there list (rows_of (all_found list) c.args.whole.now.slots.now) (segment_of_view c.args.segment.now) c.args.first c.walk.number c.walk.records (c.in-Some.field-0-0, view c.in-Some.rec) w.0 (seen_name c.in-Some-seen_in.seen) c.walk.out.items e
+    let f = exporting_there list (rows_of (all_found list) c.args.context.now.slots.now) (segment_of_view c.args.segment.now) c.args.first c.walk.number c.walk.records (c.in-Some.field-0-0, view c.in-Some.rec) w.0 (seen_name c.in-Some-seen_in.seen) c.walk.out.items e
     c.requires.stands w.1 (λ loc. c.in-Some-seen_in.ensures c.in-Some.field-0-0 loc) in
-    omega (arith, number_fits list c.args.whole.now.slots.now c.walk.number f.0 c.requires.whole.known.are f.1)
+    omega (arith, number_fits list c.args.context.now.slots.now c.walk.number f.0 c.requires.whole.known.are f.1)
 
 pub walk-preserved-in-Some-seen_in : goal.walk-preserved-in-Some-seen_in
 walk-preserved-in-Some-seen_in c =
-    let list = c.args.whole.now.program.now in
-    let reported = rows_of (all_found list) c.args.whole.now.slots.now in
+    let list = c.args.context.now.link.program.now in
+    let reported = rows_of (all_found list) c.args.context.now.slots.now in
     let s = segment_of_view c.args.segment.now in
     let e = c.walk.invariant.exporting in
     let found : ℕ × Record = (c.in-Some.field-0-0, view c.in-Some.rec) in
@@ -63,11 +63,11 @@ walk-preserved-in-Some-seen_in c =
 
 pub walk-preserved : goal.walk-preserved
 walk-preserved c =
-    let list = c.args.whole.now.program.now in
+    let list = c.args.context.now.link.program.now in
     let e = c.walk.invariant.exporting in
     let w = found_next c.walk.records c.next_record.new.records e.back c.next_record.result (c.in-Some.field-0-0, c.in-Some.rec) e.coming c.next_record.ensures.walk c.in-Some.is in
     record {
-      exporting = exporting_more list (rows_of (all_found list) c.args.whole.now.slots.now) (segment_of_view c.args.segment.now) c.args.first c.walk.number c.walk.records c.next_record.new.records (c.in-Some.field-0-0, view c.in-Some.rec) w.0 c.walk.out.items e w.1 w.2
+      exporting = exporting_more list (rows_of (all_found list) c.args.context.now.slots.now) (segment_of_view c.args.segment.now) c.args.first c.walk.number c.walk.records c.next_record.new.records (c.in-Some.field-0-0, view c.in-Some.rec) w.0 c.walk.out.items e w.1 w.2
           (λ loc. c.in-None-seen_in.ensures c.in-Some.field-0-0 loc);
       layout = ap (λ (l : Layout). l.lab_len) c.next_record.ensures.layout ∙ c.walk.invariant.layout;
     }

@@ -8,7 +8,7 @@ use Rattle.link_file.proofs.exports.put_segment.Given as goal
 -- the definitions so far have their ENTRY records
 abbrev pub invariant-walk : goal.invariant-walk
 invariant-walk l = record {
-  exporting : Exporting l.whole.program.now (rows_of (all_found l.whole.program.now) l.whole.slots.now) (segment_of_view l.segment) l.first l.number l.records l.out.items;
+  exporting : Exporting l.context.link.program.now (rows_of (all_found l.context.link.program.now) l.context.slots.now) (segment_of_view l.segment) l.first l.number l.records l.out.items;
   layout : l.records.layout.lab_len ≡ l.segment.header.lab_len;
 }
 

@@ -15,8 +15,8 @@ returns-in_err-put_images-clause-too_long c =
     let p = err_from_is_err_and c.from_residual.result c.from_residual.ensures.1 in
     rw (p.1, p.2) (λ e reported are exported same.
     let list = c.args.program.now in
-    let headers = c.args.headers.now in
-    let contents = c.args.contents.now in
+    let headers = c.args.images.headers.now in
+    let contents = c.args.images.contents.now in
     let records = exports_for (form_in list) 1 (exports list reported) in
     let xs = images_in records headers contents in
     let ys = images_after (length headers + 1) c.args.table.now (setting_in list).runtimes in
@@ -27,8 +27,8 @@ returns-in_err-put_images-clause-too_long c =
 pub returns-clause-ok : goal.returns-clause-ok
 returns-clause-ok c = λ reported are exported same.
     let list = c.args.program.now in
-    let headers = c.args.headers.now in
-    let contents = c.args.contents.now in
+    let headers = c.args.images.headers.now in
+    let contents = c.args.images.contents.now in
     let records = exports_for (form_in list) 1 (exports list reported) in
     let xs = images_in records headers contents in
     let ys = images_after (length headers + 1) c.args.table.now (setting_in list).runtimes in
@@ -40,8 +40,8 @@ returns-in_err-put_rest-clause-too_long c =
     let p = err_from_is_err_and c.from_residual-in_err-put_rest.result c.from_residual-in_err-put_rest.ensures.1 in
     rw (p.1, p.2) (λ e reported are exported same.
     let list = c.args.program.now in
-    let headers = c.args.headers.now in
-    let contents = c.args.contents.now in
+    let headers = c.args.images.headers.now in
+    let contents = c.args.images.contents.now in
     let records = exports_for (form_in list) 1 (exports list reported) in
     let xs = images_in records headers contents in
     let ys = images_after (length headers + 1) c.args.table.now (setting_in list).runtimes in

@@ -12,12 +12,12 @@ use Rattle.link_file.proofs.walk.fill.Goals as goal
 
 pub members-init : goal.members-init
 members-init c =
-    let list = c.args.whole.now.program.now in
-    let reported = rows_of (all_found list) c.args.whole.now.slots.now in
+    let list = c.args.context.now.link.program.now in
+    let reported = rows_of (all_found list) c.args.context.now.slots.now in
     let size = ap length c.requires.whole.loads' ∙ length-map (load_headers list) to_load_limits ∙ loads_size list in
     subst (λ (t : List Target). IsWalkedTo list reported 0 t c.in-Ok.contents.items) (sym c.requires.empty) (walked_none list reported c.in-Ok.contents.items (subst (λ (n : ℕ). AreEmpty n c.in-Ok.contents.items) size c.in-Ok.ensures))
 
 pub returns-clause-ok : goal.returns-clause-ok
 returns-clause-ok c =
-    let list = c.args.whole.now.program.now in
-    walked_all list (rows_of (all_found list) c.args.whole.now.slots.now) c.members.place c.members.table c.members.contents.items c.members.invariant (omega (arith, c.members-test.false, c.members-in-members.ensures))
+    let list = c.args.context.now.link.program.now in
+    walked_all list (rows_of (all_found list) c.args.context.now.slots.now) c.members.place c.members.table c.members.contents.items c.members.invariant (omega (arith, c.members-test.false, c.members-in-members.ensures))

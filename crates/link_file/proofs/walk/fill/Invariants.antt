@@ -6,7 +6,7 @@ use Rattle.link_file.proofs.walk.fill.Given as goal
 
 -- the members so far gave their cells
 abbrev pub invariant-members : goal.invariant-members
-invariant-members l = IsWalkedTo l.whole.program.now (rows_of (all_found l.whole.program.now) l.whole.slots.now) l.place l.table l.contents.items
+invariant-members l = IsWalkedTo l.context.link.program.now (rows_of (all_found l.context.link.program.now) l.context.slots.now) l.place l.table l.contents.items
 
 abbrev pub decreases-members : goal.decreases-members
-decreases-members l = length l.whole.program.now - l.place
+decreases-members l = length l.context.link.program.now - l.place

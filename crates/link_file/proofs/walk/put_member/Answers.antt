@@ -16,8 +16,8 @@ counted n le = omega (arith, le)
 
 pub unreachable-requires : goal.unreachable-requires
 unreachable-requires c =
-    let list = c.args.whole.now.program.now in
-    let reported = rows_of (all_found list) c.args.whole.now.slots.now in
+    let list = c.args.context.now.link.program.now in
+    let reported = rows_of (all_found list) c.args.context.now.slots.now in
     let place = c.args.place in
     let w = c.requires.walked in
     let again = counted place c.requires.first in
@@ -27,8 +27,8 @@ unreachable-requires c =
 
 pub overflow_sub-number : goal.overflow_sub-number
 overflow_sub-number c =
-    let list = c.args.whole.now.program.now in
-    let reported = rows_of (all_found list) c.args.whole.now.slots.now in
+    let list = c.args.context.now.link.program.now in
+    let reported = rows_of (all_found list) c.args.context.now.slots.now in
     let place = c.args.place in
     let w = c.requires.walked in
     let again = counted place c.requires.first in
@@ -41,8 +41,8 @@ overflow_sub-number c =
 
 pub index_mut-requires : goal.index_mut-requires
 index_mut-requires c =
-    let list = c.args.whole.now.program.now in
-    let reported = rows_of (all_found list) c.args.whole.now.slots.now in
+    let list = c.args.context.now.link.program.now in
+    let reported = rows_of (all_found list) c.args.context.now.slots.now in
     let place = c.args.place in
     let w = c.requires.walked in
     let again = counted place c.requires.first in
@@ -56,8 +56,8 @@ index_mut-requires c =
 
 pub put_segment-requires-clause-stood : goal.put_segment-requires-clause-stood
 put_segment-requires-clause-stood c =
-    let list = c.args.whole.now.program.now in
-    let reported = rows_of (all_found list) c.args.whole.now.slots.now in
+    let list = c.args.context.now.link.program.now in
+    let reported = rows_of (all_found list) c.args.context.now.slots.now in
     let place = c.args.place in
     let w = c.requires.walked in
     let again = counted place c.requires.first in
@@ -75,8 +75,8 @@ put_segment-requires-clause-stood c =
 
 pub returns-in-Ok-clause-ok : goal.returns-in-Ok-clause-ok
 returns-in-Ok-clause-ok c =
-    let list = c.args.whole.now.program.now in
-    let reported = rows_of (all_found list) c.args.whole.now.slots.now in
+    let list = c.args.context.now.link.program.now in
+    let reported = rows_of (all_found list) c.args.context.now.slots.now in
     let place = c.args.place in
     let w = c.requires.walked in
     let again = counted place c.requires.first in
@@ -97,8 +97,8 @@ returns-in-Ok-clause-ok c =
 
 pub value_fault-requires : goal.value_fault-requires
 value_fault-requires c =
-    let list = c.args.whole.now.program.now in
-    let reported = rows_of (all_found list) c.args.whole.now.slots.now in
+    let list = c.args.context.now.link.program.now in
+    let reported = rows_of (all_found list) c.args.context.now.slots.now in
     let place = c.args.place in
     let again = counted place c.requires.first in
     let n = next_walked list reported (place - 1) c.args.table.now c.args.contents.now.items c.requires.walked (omega (arith, c.requires.first, c.requires.inside)) in
@@ -106,8 +106,8 @@ value_fault-requires c =
 
 pub returns-in-Err : goal.returns-in-Err
 returns-in-Err c =
-    let list = c.args.whole.now.program.now in
-    let reported = rows_of (all_found list) c.args.whole.now.slots.now in
+    let list = c.args.context.now.link.program.now in
+    let reported = rows_of (all_found list) c.args.context.now.slots.now in
     let place = c.args.place in
     let w = c.requires.walked in
     let again = counted place c.requires.first in

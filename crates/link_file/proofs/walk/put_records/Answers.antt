@@ -4,7 +4,6 @@ use Rattle.omf_format.specs.Record.{Record}
 use Rattle.omf_records.specs.Segments.{segment_of_view}
 use Rattle.omf_records.specs.View.{view}
 use Rattle.object_meaning.specs.Sizes.{size_at, place_after}
-use Rattle.link_meaning.specs.Layout.{load_headers}
 use Rattle.link_program.specs.Outside.{all_found}
 use Rattle.link_meaning.specs.LinkedCells.{made}
 use Rattle.link_meaning.specs.laws.LinkedRuns.{item}
@@ -17,8 +16,8 @@ use Rattle.link_file.proofs.walk.put_records.Goals as goal
 
 pub walk-init : goal.walk-init
 walk-init c =
-    let list = c.args.whole.now.program.now in
-    let reported = rows_of (all_found list) c.args.whole.now.slots.now in
+    let list = c.args.context.now.link.program.now in
+    let reported = rows_of (all_found list) c.args.context.now.slots.now in
     let s = segment_of_view c.args.segment.now in
     record {
       putting = record { done = []; back = s.records; parts = refl; coming = coming_view c.args.segment.now c.records-records.result c.requires.sound c.records-records.ensures; location' = refl };
@@ -28,16 +27,16 @@ walk-init c =
 
 pub returns-in-None-clause-ok : goal.returns-in-None-clause-ok
 returns-in-None-clause-ok c = λ front m back before b.
-    let list = c.args.whole.now.program.now in
-    let reported = rows_of (all_found list) c.args.whole.now.slots.now in
+    let list = c.args.context.now.link.program.now in
+    let reported = rows_of (all_found list) c.args.context.now.slots.now in
     let i = c.walk.invariant in
     let none = found_end c.walk.records c.next_record.new.records i.putting.back c.next_record.result i.putting.coming c.next_record.ensures.walk c.in-None.is in
     subst (λ (d : List (ℕ × Record)). Puts list reported front m d c.walk.table before c.walk.content) (sym (i.putting.parts ∙ ap (λ (l : List (ℕ × Record)). i.putting.done ++ l) none ∙ append-nil i.putting.done)) (i.puts front m back before b)
 
 pub value_of-value-requires-clause-near : goal.value_of-value-requires-clause-near
 value_of-value-requires-clause-near c =
-    let list = c.args.whole.now.program.now in
-    let reported = rows_of (all_found list) c.args.whole.now.slots.now in
+    let list = c.args.context.now.link.program.now in
+    let reported = rows_of (all_found list) c.args.context.now.slots.now in
     let s = segment_of_view c.args.segment.now in
     let i = c.walk.invariant in
     let b = c.requires.begun in
@@ -48,8 +47,8 @@ value_of-value-requires-clause-near c =
 
 pub put_record-requires-clause-near : goal.put_record-requires-clause-near
 put_record-requires-clause-near c =
-    let list = c.args.whole.now.program.now in
-    let reported = rows_of (all_found list) c.args.whole.now.slots.now in
+    let list = c.args.context.now.link.program.now in
+    let reported = rows_of (all_found list) c.args.context.now.slots.now in
     let s = segment_of_view c.args.segment.now in
     let i = c.walk.invariant in
     let b = c.requires.begun in
@@ -60,8 +59,8 @@ put_record-requires-clause-near c =
 
 pub put_record-requires-clause-small : goal.put_record-requires-clause-small
 put_record-requires-clause-small c =
-    let list = c.args.whole.now.program.now in
-    let reported = rows_of (all_found list) c.args.whole.now.slots.now in
+    let list = c.args.context.now.link.program.now in
+    let reported = rows_of (all_found list) c.args.context.now.slots.now in
     let s = segment_of_view c.args.segment.now in
     let i = c.walk.invariant in
     let b = c.requires.begun in
@@ -75,8 +74,8 @@ put_record-requires-clause-small c =
 
 pub overflow_add-location : goal.overflow_add-location
 overflow_add-location c =
-    let list = c.args.whole.now.program.now in
-    let reported = rows_of (all_found list) c.args.whole.now.slots.now in
+    let list = c.args.context.now.link.program.now in
+    let reported = rows_of (all_found list) c.args.context.now.slots.now in
     let s = segment_of_view c.args.segment.now in
     let i = c.walk.invariant in
     let b = c.requires.begun in
@@ -88,8 +87,8 @@ overflow_add-location c =
 
 pub overflow_cast-location : goal.overflow_cast-location
 overflow_cast-location c =
-    let list = c.args.whole.now.program.now in
-    let reported = rows_of (all_found list) c.args.whole.now.slots.now in
+    let list = c.args.context.now.link.program.now in
+    let reported = rows_of (all_found list) c.args.context.now.slots.now in
     let s = segment_of_view c.args.segment.now in
     let i = c.walk.invariant in
     let b = c.requires.begun in
@@ -102,8 +101,8 @@ overflow_cast-location c =
 pub returns-in-Err-clause-err : goal.returns-in-Err-clause-err
 unfolding made
 returns-in-Err-clause-err c = λ front m back before b.
-    let list = c.args.whole.now.program.now in
-    let reported = rows_of (all_found list) c.args.whole.now.slots.now in
+    let list = c.args.context.now.link.program.now in
+    let reported = rows_of (all_found list) c.args.context.now.slots.now in
     let s = segment_of_view c.args.segment.now in
     let i = c.walk.invariant in
     let done = i.putting.done in
@@ -111,9 +110,7 @@ returns-in-Err-clause-err c = λ front m back before b.
     let w = found_next c.walk.records c.next_record.new.records i.putting.back c.next_record.result (c.in-Some.at, c.in-Some.rec) i.putting.coming c.next_record.ensures.walk c.in-Some.is in
     let p = i.puts front m back before b in
     let its = item (length front + 1) m (one_located found (place_after 0 done)) in
-    let stands = stands_at list reported front m back c.args.member_place s c.args.table.now c.walk.table before c.args.content.now c.walk.content done found c.args.whole.now.loads.now
-    (record { table = c.args.whole.now.table; own = c.args.member_place.load_segment; bank_size = c.bank_of.result; offset = c.args.member_place.offset }) c.walk.location b p c.requires.whole.loads' c.requires.whole.table' refl
-    (c.bank_of.ensures (load_headers list) c.requires.whole.loads') refl i.putting.location' in
+    let stands = stands_at list reported front m back c.args.member_place s c.args.table.now c.walk.table before c.args.content.now c.walk.content done found c.args.context.now.link c.walk.location refl b p c.requires.whole.loads' c.requires.whole.table' i.putting.location' in
     let worth = c.value_of-value.ensures its b.is b.place (sym i.putting.location') in
     elim (c.in-Err.ensures.err list reported (state_after_records list reported front m done) its before stands worth) [
       | inl memory ↦ inl memory
@@ -123,8 +120,8 @@ returns-in-Err-clause-err c = λ front m back before b.
 pub walk-preserved : goal.walk-preserved
 unfolding made
 walk-preserved c =
-    let list = c.args.whole.now.program.now in
-    let reported = rows_of (all_found list) c.args.whole.now.slots.now in
+    let list = c.args.context.now.link.program.now in
+    let reported = rows_of (all_found list) c.args.context.now.slots.now in
     let s = segment_of_view c.args.segment.now in
     let i = c.walk.invariant in
     let done = i.putting.done in
@@ -143,9 +140,7 @@ walk-preserved c =
       puts = λ front m back before b.
           let p = i.puts front m back before b in
           let its = item (length front + 1) m (one_located found (place_after 0 done)) in
-          let stands = stands_at list reported front m back c.args.member_place s c.args.table.now c.walk.table before c.args.content.now c.walk.content done found c.args.whole.now.loads.now
-          (record { table = c.args.whole.now.table; own = c.args.member_place.load_segment; bank_size = c.bank_of.result; offset = c.args.member_place.offset }) c.walk.location b p c.requires.whole.loads' c.requires.whole.table' refl
-          (c.bank_of.ensures (load_headers list) c.requires.whole.loads') refl i.putting.location' in
+          let stands = stands_at list reported front m back c.args.member_place s c.args.table.now c.walk.table before c.args.content.now c.walk.content done found c.args.context.now.link c.walk.location refl b p c.requires.whole.loads' c.requires.whole.table' i.putting.location' in
           let worth = c.value_of-value.ensures its b.is b.place (sym i.putting.location') in
           puts_more list reported front m done found c.walk.table c.put_record.new.table before c.walk.content c.put_record.new.content p (c.in-Ok.ensures.ok list reported (state_after_records list reported front m done) its before stands worth);
     }

@@ -13,8 +13,8 @@ invariant-walk l = record {
   putting : Putting (segment_of_view l.segment).records l.records l.location;
   layout : l.records.layout.lab_len ≡ l.segment.header.lab_len;
   puts : (front : List Member) (m : Member) (back : List Member) (before : List Cell)
-      → Begins l.whole.program.now (rows_of (all_found l.whole.program.now) l.whole.slots.now) front m back l.member_place (segment_of_view l.segment) l.initial.table before l.initial.content
-      → Puts l.whole.program.now (rows_of (all_found l.whole.program.now) l.whole.slots.now) front m putting.done l.table before l.content;
+      → Begins l.context.link.program.now (rows_of (all_found l.context.link.program.now) l.context.slots.now) front m back l.member_place (segment_of_view l.segment) l.initial.table before l.initial.content
+      → Puts l.context.link.program.now (rows_of (all_found l.context.link.program.now) l.context.slots.now) front m putting.done l.table before l.content;
 }
 
 abbrev pub decreases-walk : goal.decreases-walk

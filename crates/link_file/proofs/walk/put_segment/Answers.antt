@@ -10,8 +10,8 @@ use Rattle.link_file.proofs.walk.put_segment.Goals as goal
 
 pub put_zeros-requires-2 : goal.put_zeros-requires-2
 put_zeros-requires-2 c =
-    let list = c.args.whole.now.program.now in
-    let reported = rows_of (all_found list) c.args.whole.now.slots.now in
+    let list = c.args.context.now.link.program.now in
+    let reported = rows_of (all_found list) c.args.context.now.slots.now in
     let s = segment_of_view c.args.segment.now in
     let st = c.requires.stood in
     let holds = subst (λ (n : ℕ). HoldsCells (st.cells ++ zeros (c.args.member_place.offset - n)) c.put_zeros.new.self) (c.len.ensures st.cells st.stands.holds) (c.put_zeros.ensures st.cells st.stands.holds) in
@@ -22,8 +22,8 @@ put_zeros-requires-2 c =
 
 pub returns-clause-ok : goal.returns-clause-ok
 returns-clause-ok c = λ front m back cells stands.
-    let list = c.args.whole.now.program.now in
-    let reported = rows_of (all_found list) c.args.whole.now.slots.now in
+    let list = c.args.context.now.link.program.now in
+    let reported = rows_of (all_found list) c.args.context.now.slots.now in
     let s = segment_of_view c.args.segment.now in
     let holds = subst (λ (n : ℕ). HoldsCells (cells ++ zeros (c.args.member_place.offset - n)) c.put_zeros.new.self) (c.len.ensures cells stands.holds) (c.put_zeros.ensures cells stands.holds) in
     let b = begins_there list c.requires.whole.files reported front m back c.args.member_place s c.args.table.now cells c.args.content.now stands c.put_zeros.new.self holds in
@@ -34,8 +34,8 @@ pub returns-in_err-put_records-clause-err : goal.returns-in_err-put_records-clau
 returns-in_err-put_records-clause-err c =
     let p = err_from_is_err_and c.from_residual.result c.from_residual.ensures.1 in
     rw (p.1, p.2) (λ front m back cells stands.
-    let list = c.args.whole.now.program.now in
-    let reported = rows_of (all_found list) c.args.whole.now.slots.now in
+    let list = c.args.context.now.link.program.now in
+    let reported = rows_of (all_found list) c.args.context.now.slots.now in
     let s = segment_of_view c.args.segment.now in
     let holds = subst (λ (n : ℕ). HoldsCells (cells ++ zeros (c.args.member_place.offset - n)) c.put_zeros.new.self) (c.len.ensures cells stands.holds) (c.put_zeros.ensures cells stands.holds) in
     let b = begins_there list c.requires.whole.files reported front m back c.args.member_place s c.args.table.now cells c.args.content.now stands c.put_zeros.new.self holds in

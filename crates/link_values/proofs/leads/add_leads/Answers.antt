@@ -9,7 +9,7 @@ use Rattle.link_values.proofs.leads.add_leads.Goals as goal
 pub terms-preserved : goal.terms-preserved
 terms-preserved c = λ m there one none.
     let list = c.args.program.now in
-    let place = c.args.place in
+    let place = c.args.member_place.place in
     let i = c.terms.invariant m there one none in
     let t : ℕ × Term = (c.in-Some.field-0-0, view c.in-Some.term) in
     let parts = split_terms c.terms.terms c.next.new.self t c.in-Some.ensures.answer c.in-Some.ensures.after in

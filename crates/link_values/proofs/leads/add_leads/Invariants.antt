@@ -8,8 +8,8 @@ use Rattle.link_values.proofs.leads.add_leads.Given as goal
 
 -- the names of the terms so far have their numbers
 abbrev pub invariant-terms : goal.invariant-terms
-invariant-terms l = (m : Member) → member_at l.program l.place ≡ Some m → FindOne l.program l.place m (flat_map (λ placed. asks_value placed.1) l.initial.terms) → l.initial.row.items ≡ []
-    → (done : List (List ℕ)) × (done ++ flat_map (λ placed. asks_value placed.1) l.terms ≡ flat_map (λ placed. asks_value placed.1) l.initial.terms) × NameRow l.program l.place m done l.row.items
+invariant-terms l = (m : Member) → member_at l.program l.member_place.place ≡ Some m → FindOne l.program l.member_place.place m (flat_map (λ placed. asks_value placed.1) l.initial.terms) → l.initial.row.items ≡ []
+    → (done : List (List ℕ)) × (done ++ flat_map (λ placed. asks_value placed.1) l.terms ≡ flat_map (λ placed. asks_value placed.1) l.initial.terms) × NameRow l.program l.member_place.place m done l.row.items
 
 abbrev pub decreases-terms : goal.decreases-terms
 decreases-terms l = length l.terms

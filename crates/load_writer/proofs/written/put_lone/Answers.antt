@@ -1,6 +1,6 @@
-use Rattle.std.proofs.Common.{map, sym, subst, arith}
+use Rattle.std.proofs.Common.{◌+◌, map, drop, refl, sym, subst, ◌∙◌, arith}
 use Rattle.std.specs.Prelude.{pos}
-use Rattle.std.proofs.lemmas.List.{at_drop_more}
+use Rattle.std.proofs.lemmas.List.{length-map, length-drop, at_drop_more}
 use Rattle.std.proofs.lemmas.Result.{err_from_is_err_and}
 use Rattle.omf_format.specs.Field.{written_layout}
 use Rattle.omf_format.specs.Record.{IsRecord}
@@ -9,20 +9,66 @@ use Rattle.load_writer.specs.WrittenParts.{seen}
 use Rattle.load_meaning.specs.WrittenBody.{AreWritten}
 use Rattle.load_meaning.specs.laws.FormLaws.{lone_fits}
 use Rattle.load_writer.proofs.Fronts.{front_whole, front_after}
+use Rattle.load_writer.proofs.FormLists.{below, step_is, size_is, end_is, start_is, start_size, lone_left, lone_put, lone_passed}
 use Rattle.load_writer.proofs.written.put_lone.Goals as goal
 
 abbrev no_patch : Patch
 no_patch = record { at = 0; count = 0; shift = pos 0; segment = 0; offset = 0 }
 
+pub patches-init : goal.patches-init
+patches-init c = record {
+  records = refl;
+  lists = start_is c.args.own (map seen c.args.patches.now) _ c.in_ok-lists.ensures;
+  size = start_size (λ l. l.items) c.in_ok-lists.lists.items c.in_ok-lists.ensures;
+  left = (0, c.requires);
+  front = front_whole _ _ refl;
+}
+
+pub put_in-requires : goal.put_in-requires
+put_in-requires c = omega (arith, c.patches.invariant.size, below c.args.own _ c.in-Some.form (sym c.super_form.ensures ∙ c.in-Some.is))
+
 pub put_record-requires : goal.put_record-requires
 put_record-requires c =
     let left = c.patches.invariant.left in
-    let here = subst (AreWritten c.args.size left.0) (at_drop_more (map seen) c.args.patches.now c.patches.patch-index no_patch c.patches-test.true) left.1 in
-    subst (IsRecord written_layout) (sym c.lone_record.ensures) (lone_fits c.args.own c.args.size _ (omega (arith, c.requires.small)) here.0)
+    let here = subst (AreWritten 0xFFFFFF left.0) (at_drop_more (map seen) c.args.patches.now c.patches.patch-index no_patch c.patches-test.true) left.1 in
+    subst (IsRecord written_layout) (sym c.lone_record.ensures) (lone_fits c.args.own 0xFFFFFF _ (omega arith) here.0)
 
-pub returns-in_err-put_record-clause-err : goal.returns-in_err-put_record-clause-err
-returns-in_err-put_record-clause-err c =
-    let p = err_from_is_err_and c.from_residual.result c.from_residual.ensures.1 in
+pub returns-in_err-put_record-in-None-clause-err : goal.returns-in_err-put_record-in-None-clause-err
+returns-in_err-put_record-in-None-clause-err c =
+    let p = err_from_is_err_and c.from_residual-in_err-put_record-in-None.result c.from_residual-in_err-put_record-in-None.ensures.1 in
     let old = c.patches.out.items in
     let new = c.put_record.new.out.items in
-    rw p.1 (front_after c.args.out.now.items old new c.patches.invariant.front (front_whole old new c.in_err-put_record.ensures.err))
+    rw p.1 (front_after c.args.out.now.items old new c.patches.invariant.front (front_whole old new c.in_err-put_record-in-None.ensures.err))
+
+pub patches-preserved-in-Some : goal.patches-preserved-in-Some
+patches-preserved-in-Some c =
+    let i = c.patches.patch-index in
+    let patches = c.args.patches.now in
+    let is = sym c.super_form.ensures ∙ c.in-Some.is in
+    let next = at_drop_more (map seen) patches i no_patch c.patches-test.true in
+    record {
+      records = lone_passed c.args.own c.in-Some.form _ (map seen (drop (i + 1) patches)) (map seen (drop i patches)) _ _ is next c.patches.invariant.records;
+      lists = step_is c.args.own c.in-Some.form _ (map seen (drop (i + 1) patches)) (map seen (drop i patches)) _ _ _ c.in_ok-put_in-in-Some.ensures is next c.patches.invariant.lists;
+      size = size_is (λ l. l.items) c.patches.lists.items c.put_in.new.lists.items c.in-Some.form _ c.in_ok-put_in-in-Some.ensures ∙ c.patches.invariant.size;
+      left = (_, (subst (AreWritten 0xFFFFFF c.patches.invariant.left.0) next c.patches.invariant.left.1).2);
+      front = c.patches.invariant.front;
+    }
+
+pub patches-preserved : goal.patches-preserved
+patches-preserved c =
+    let i = c.patches.patch-index in
+    let patches = c.args.patches.now in
+    let is = sym c.super_form.ensures ∙ c.in-None.is in
+    let next = at_drop_more (map seen) patches i no_patch c.patches-test.true in
+    record {
+      records = lone_put c.args.own _ (map seen (drop (i + 1) patches)) (map seen (drop i patches)) _ _ _ is next c.in_ok-put_record-in-None.ensures.ok c.patches.invariant.records;
+      lists = lone_left c.args.own _ (map seen (drop (i + 1) patches)) (map seen (drop i patches)) _ _ is next c.patches.invariant.lists;
+      size = c.patches.invariant.size;
+      left = (_, (subst (AreWritten 0xFFFFFF c.patches.invariant.left.0) next c.patches.invariant.left.1).2);
+      front = front_after c.args.out.now.items c.patches.out.items c.put_record.new.out.items c.patches.invariant.front (_, c.in_ok-put_record-in-None.ensures.ok);
+    }
+
+pub returns-clause-lists : goal.returns-clause-lists
+returns-clause-lists c =
+    let left = drop c.patches.patch-index c.args.patches.now in
+    end_is c.args.own (map seen left) _ _ (omega (arith, length-map left seen, length-drop c.patches.patch-index c.args.patches.now, c.patches-test.false)) c.patches.invariant.lists

@@ -5,9 +5,9 @@ use Rattle.load_writer.proofs.written_data.low_bytes.Goals as goal
 
 pub overflow_cast-result : goal.overflow_cast-result
 overflow_cast-result c =
-    let two = type_two c.args.own (seen c.args.patch.now) (sym c.has_form.ensures ∙ c.if-has_form.true) in
+    let two = type_two c.args.own (seen c.args.patch.now) (sym c.is_far.ensures ∙ c.if-is_far.true) in
     omega (arith, two.0)
 
-pub returns-then-has_form : goal.returns-then-has_form
-returns-then-has_form c =
-    stored_two c.args.own (seen c.args.patch.now) c.to_le_bytes.result c.to_le_bytes.ensures (sym c.has_form.ensures ∙ c.if-has_form.true)
+pub returns-then-is_far : goal.returns-then-is_far
+returns-then-is_far c =
+    stored_two c.args.own (seen c.args.patch.now) c.to_le_bytes.result c.to_le_bytes.ensures (sym c.is_far.ensures ∙ c.if-is_far.true)

@@ -7,7 +7,7 @@ use Rattle.link_program.specs.Linked.{member_at}
 use Rattle.link_program.specs.Outside.{all_found}
 use Rattle.link_values.specs.declared.slots.ValueSlot.{ValueSlot}
 use Rattle.link_values.specs.Slots.{rows_of}
-use Rattle.link_values.specs.MemberPlaces.{AreKnown}
+use Rattle.link_values.specs.Surroundings.{AreKnown}
 use Rattle.link_file.specs.Valued.{Valued}
 use Rattle.link_file.proofs.WalkedLaws.{member_place_there, member_place_gone}
 use Rattle.link_file.proofs.values.EquateValues.value_in.Goals as goal

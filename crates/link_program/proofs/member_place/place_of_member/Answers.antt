@@ -1,7 +1,7 @@
 use Rattle.std.proofs.Common.{refl, sym, ◌∙◌}
 use Rattle.omf_records.specs.Segments.{segment_of_view}
-use Rattle.link_values.proofs.MemberPlaceLaws.{no_member, set_place}
-use Rattle.link_values.proofs.member_place.place_of_member.Goals as goal
+use Rattle.link_program.proofs.MemberPlaceLaws.{no_member, set_place}
+use Rattle.link_program.proofs.member_place.place_of_member.Goals as goal
 
 pub returns-in-None : goal.returns-in-None
 returns-in-None c = no_member c.args.program.now c.args.place (sym c.member.ensures ∙ c.in-None.is)

@@ -1,31 +1,15 @@
--- Where a member is, and what an expression meets there.
-use Rattle.std.specs.Prelude.{◌≡◌, ℕ, List, Option, Some, None}
+-- What an expression meets in a member.
+use Rattle.std.specs.Prelude.{ℕ, List, Option}
 use Rattle.omf_format.specs.declared.value.Value.{Value}
 use Rattle.omf_format.specs.Value.{Environment}
 use Rattle.link_meaning.specs.Member.{Member}
-use Rattle.link_meaning.specs.Layout.{load_of, offset_of}
 use Rattle.link_program.specs.Outside.{all_found}
 use Rattle.link_meaning.specs.LinkValues.{label_value}
 use Rattle.link_meaning.specs.laws.Steps.{attribute_value}
 use Rattle.link_program.specs.Linked.{member_at}
 use Rattle.link_program.specs.Finding.{finds_for}
-use Rattle.link_values.specs.declared.member_place.MemberPlace.{MemberPlace}
 use Rattle.link_values.specs.declared.slots.ValueSlot.{ValueSlot}
 use Rattle.link_values.specs.Slots.{AreOnce, AreSlots, rows_of}
-
--- this is the member's place
-pub record IsMemberPlace (list : List Member) (m : Member) (member_place : MemberPlace) : Type 0 where
-  pub there : member_at list member_place.place ≡ Some m
-  pub lab_len' : member_place.lab_len ≡ m.segment.fields.lab_len
-  pub load : member_place.load_segment ≡ load_of list m
-  pub offset' : member_place.offset ≡ offset_of list member_place.place m
-
--- this is that of the member at this place of the list, if there is one
-abbrev pub MemberPlaceOf : List Member → ℕ → Option Member → Option MemberPlace → Type 0
-MemberPlaceOf list place None None = Unit {0}
-MemberPlaceOf list place None (Some member_place) = ⊥
-MemberPlaceOf list place (Some m) None = ⊥
-MemberPlaceOf list place (Some m) (Some member_place) = (member_place.place ≡ place) × IsMemberPlace list m member_place
 
 -- there is a slot for each definition, and no two equates have the same place and displacement
 pub record AreKnown (list : List Member) (slots : List ValueSlot) : Type 0 where

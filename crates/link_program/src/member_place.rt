@@ -1,9 +1,9 @@
 //! Where a member of the program is.
 
 ghost use Rattle.link_program.specs.Linked.{member_at};
-ghost use Rattle.link_values.specs.MemberPlaces.{MemberPlaceOf};
+ghost use Rattle.link_program.specs.MemberPlaces.{MemberPlaceOf};
 
-use link_program::Program;
+use crate::program::Program;
 
 /// Where a member is: its place in the linked list, from 1, and its load segment, from 1, with the offset there; and the LABLEN of its
 /// names.

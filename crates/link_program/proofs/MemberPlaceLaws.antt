@@ -1,19 +1,14 @@
--- Where members are, and what expressions meet there.
-use Rattle.std.proofs.Common.{◌≡◌, ℕ, List, Option, Some, None, refl, sym, ap, ◌∙◌}
+-- Where members are.
+use Rattle.std.proofs.Common.{◌≡◌, ℕ, List, Option, Some, None, sym, ap, ◌∙◌}
 use Rattle.std.specs.Prelude.{option_map}
-use Rattle.omf_format.specs.declared.value.Value.{Value}
 use Rattle.omf_format.specs.File.{Segment}
 use Rattle.link_meaning.specs.Member.{Member}
 use Rattle.link_meaning.specs.Layout.{load_of, offset_of}
-use Rattle.link_program.specs.Outside.{all_found}
-use Rattle.link_meaning.specs.LinkValues.{place_value, member_environment}
 use Rattle.link_program.specs.declared.program.LinkMember.{LinkMember}
+use Rattle.link_program.specs.declared.member_place.MemberPlace.{MemberPlace}
 use Rattle.link_program.specs.Linked.{member_at}
 use Rattle.link_program.specs.Programs.{linked_at}
-use Rattle.link_values.specs.declared.member_place.MemberPlace.{MemberPlace}
-use Rattle.link_values.specs.declared.slots.ValueSlot.{ValueSlot}
-use Rattle.link_values.specs.Slots.{rows_of}
-use Rattle.link_values.specs.MemberPlaces.{MemberPlaceOf, environment_in_member}
+use Rattle.link_program.specs.MemberPlaces.{MemberPlaceOf}
 
 abbrev nothing : {A : Type 0} → Option A
 nothing = None
@@ -26,8 +21,6 @@ some_none x e = cc
 
 same_some : {A : Type 0} (x y : A) → something x ≡ something y → x ≡ y
 same_some x y e = cc
-
--- ---- places of members
 
 abbrev link_of : List Member → ℕ → Member → LinkMember
 link_of list place m = record { file = m.file; segment = m.number; load_segment = load_of list m; offset = offset_of list place m }
@@ -56,13 +49,3 @@ set_place list place lm s member_place e f at lab_len load offset = by_member (m
             offset' = offset ∙ ap (λ (l : LinkMember). l.offset) (sym same) ∙ ap (λ (n : ℕ). offset_of list n m) (sym at);
           },
         )
-
--- ---- the environment
-
-pub meets_there : (list : List Member) (slots : List ValueSlot) (place : ℕ) (m : Member) (location : ℕ) (here start : Value) → member_at list place ≡ Some m → here ≡ place_value list place m location
-    → start ≡ place_value list place m 0 → environment_in_member list slots place (member_at list place) here start ≡ member_environment list (rows_of (all_found list) slots) place m location
-unfolding member_environment
-meets_there list slots place m location here start there here_is start_is =
-    ap (λ (o : Option Member). environment_in_member list slots place o here start) there
-    ∙ ap (λ (v : Value). environment_in_member list slots place (Some m) v start) here_is
-    ∙ ap (environment_in_member list slots place (Some m) (place_value list place m location)) start_is
