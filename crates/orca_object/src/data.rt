@@ -21,7 +21,7 @@ use omf_base::Name;
 use omf_format::{DIRECTIVE_LABEL, INSTRUCTION_LABEL};
 use omf_records::Rec;
 use orca_operands::{Encoding, label_and_encoding, number_in, pair_or_earlier_fault};
-use orca_text::{LinePart, Mnemonic, SourceLine};
+use orca_text::{DecodedLine, LinePart, Mnemonic};
 use std::alloc::{AllocError, Global};
 
 impl OpenSegment {
@@ -120,12 +120,12 @@ pub(crate) fn do_instruct(
     kept: &mut AsmState,
     mnemonic: Mnemonic,
     label: Result<Name, AsmCause>,
-    line: &SourceLine,
+    line: &DecodedLine,
 ) -> Result<Result<(), AsmCause>, AllocError>
-    requires operation { LiesIn line.now.text line.now.operation }
-    requires operand { LiesIn line.now.text line.now.operand }
-    requires mnemonic { line_mnemonic line.now ≡ Some mnemonic }
-    ensures { IfOk result (λ done. (state : State) (l : Line) → ShowsState state kept.old → IsLeft state l (Instruct mnemonic) label (line_operand line.now) done kept.new) }
+    requires operation { LiesIn line.now.line.text line.now.line.operation }
+    requires operand { LiesIn line.now.line.text line.now.line.operand }
+    requires mnemonic { line_mnemonic line.now.line ≡ Some mnemonic }
+    ensures { IfOk result (λ done. (state : State) (l : Line) → ShowsState state kept.old → IsLeft state l (Instruct mnemonic) label (line_operand line.now.line) done kept.new) }
 {
     let given = instruction_given(alloc, kept.known_constants(), kept.widths, mnemonic, line)?;
     give_statement(alloc, kept, INSTRUCTION_LABEL, label, given)
