@@ -1,5 +1,6 @@
 -- What directives leave, as the definition says it.
 use Rattle.std.proofs.Common.{◌≡◌, ℕ, Bool, true, false, List, [], ◌∷◌, Result, Ok, Err, refl, sym, ap, subst, cond, arith, ◌∙◌}
+use Rattle.omf_format.specs.declared.codes.TheConstants.{DIRECTIVE_LABEL}
 use Rattle.omf_format.specs.Field.{◌>>=◌}
 use Rattle.orca_meaning.specs.Line.{Line}
 use Rattle.asm_meaning.specs.declared.directives.Class.{Class}
@@ -25,13 +26,13 @@ use Rattle.orca_object.specs.EquateView.{with_constant}
 use Rattle.orca_operands.specs.NumberView.{HasNumber, HasAmount, number_found, amount_found}
 use Rattle.orca_object.specs.StateView.{ShowsState, Leaves, IsLeft}
 
-pub nothing_left : {U : Type 0} (state : State) (line : Line) (label : Answer (List ℕ)) (text : List ℕ) (done : Result U AsmCause) (k : AsmState) → Leaves done k (marking state 0x4E label (Ok [])) → IsLeft state line (Direct directives.Nothing) label text done k
+pub nothing_left : {U : Type 0} (state : State) (line : Line) (label : Answer (List ℕ)) (text : List ℕ) (done : Result U AsmCause) (k : AsmState) → Leaves done k (marking state DIRECTIVE_LABEL label (Ok [])) → IsLeft state line (Direct directives.Nothing) label text done k
 unfolding IsDone
-nothing_left state line label text done k leaves = record { left = marking state 0x4E label (Ok []); is = refl; leaves = leaves }
+nothing_left state line label text done k leaves = record { left = marking state DIRECTIVE_LABEL label (Ok []); is = refl; leaves = leaves }
 
-pub ignored_left : {U : Type 0} (state : State) (line : Line) (label : Answer (List ℕ)) (text : List ℕ) (done : Result U AsmCause) (k : AsmState) → Leaves done k (marking state 0x4E label (Ok [])) → IsLeft state line (Direct directives.Ignored) label text done k
+pub ignored_left : {U : Type 0} (state : State) (line : Line) (label : Answer (List ℕ)) (text : List ℕ) (done : Result U AsmCause) (k : AsmState) → Leaves done k (marking state DIRECTIVE_LABEL label (Ok [])) → IsLeft state line (Direct directives.Ignored) label text done k
 unfolding IsDone
-ignored_left state line label text done k leaves = record { left = marking state 0x4E label (Ok []); is = refl; leaves = leaves }
+ignored_left state line label text done k leaves = record { left = marking state DIRECTIVE_LABEL label (Ok []); is = refl; leaves = leaves }
 
 pub turn_left : {U : Type 0} (state : State) (line : Line) (switch : Switch) (label : Answer (List ℕ)) (text : List ℕ) (done : Result U AsmCause) (k : AsmState) → Leaves done k (turning state switch label text)
     → IsLeft state line (Direct (directives.Turn switch)) label text done k

@@ -1,5 +1,6 @@
 -- Statements of instructions and DC, with their labels.
 use Rattle.std.proofs.Common.{◌≡◌, ℕ, ◌≤◌, Bool, List, length, Result, Ok, Err, refl, sym, ap, subst, ◌∙◌}
+use Rattle.omf_format.specs.declared.codes.TheConstants.{DIRECTIVE_LABEL, INSTRUCTION_LABEL}
 use Rattle.omf_format.specs.Field.{◌>>=◌}
 use Rattle.orca_meaning.specs.declared.mnemonics.Mnemonic.{Mnemonic}
 use Rattle.orca_meaning.specs.Line.{Line}
@@ -46,21 +47,21 @@ instruct_plain cs widths m text (Err cause) small short by = tt
 
 -- what they leave, as the definition says it
 pub constants_left : {U : Type 0} (state : State) (line : Line) (cs : Constants) (msb : Bool) (label : Answer (List ℕ)) (text : List ℕ) (given : Result Encoding AsmCause) (done : Result U AsmCause) (k : AsmState) → IsByList cs msb text (given_answer given)
-    → cs ≡ constants_of state → msb ≡ state.msb → Leaves done k (giving state 0x4E label given) → IsLeft state line (Direct directives.Constants) label text done k
+    → cs ≡ constants_of state → msb ≡ state.msb → Leaves done k (giving state DIRECTIVE_LABEL label given) → IsLeft state line (Direct directives.Constants) label text done k
 unfolding IsDone
 constants_left state line cs msb label text given done k by same same_msb leaves = record {
-  left = marking state 0x4E label (list_pieces (constants_of state) state.msb by.found >>= λ pieces. Ok (records_of pieces));
+  left = marking state DIRECTIVE_LABEL label (list_pieces (constants_of state) state.msb by.found >>= λ pieces. Ok (records_of pieces));
   is = (by.found, by.is, refl);
-  leaves = subst (λ (a : Answer (List Piece)). Leaves done k (marking state 0x4E label (a >>= λ pieces. Ok (records_of pieces))))
+  leaves = subst (λ (a : Answer (List Piece)). Leaves done k (marking state DIRECTIVE_LABEL label (a >>= λ pieces. Ok (records_of pieces))))
       (by.gives ∙ ap (λ (c : Constants). list_pieces c msb by.found) same ∙ ap (λ (b : Bool). list_pieces (constants_of state) b by.found) same_msb) leaves;
 }
 
 pub instruct_left : {U : Type 0} (state : State) (line : Line) (cs : Constants) (widths : Widths) (m : Mnemonic) (label : Answer (List ℕ)) (text : List ℕ) (given : Result Encoding AsmCause) (done : Result U AsmCause) (k : AsmState)
-    → IsByInstruction cs widths m text (given_answer given) → cs ≡ constants_of state → widths ≡ state.widths → Leaves done k (giving state 0x4D label given) → IsLeft state line (Instruct m) label text done k
+    → IsByInstruction cs widths m text (given_answer given) → cs ≡ constants_of state → widths ≡ state.widths → Leaves done k (giving state INSTRUCTION_LABEL label given) → IsLeft state line (Instruct m) label text done k
 unfolding IsDone
 instruct_left state line cs widths m label text given done k by same same_widths leaves = record {
-  left = marking state 0x4D label (by.operand >>= instruction (constants_of state) state.widths m >>= λ pieces. Ok (records_of pieces));
+  left = marking state INSTRUCTION_LABEL label (by.operand >>= instruction (constants_of state) state.widths m >>= λ pieces. Ok (records_of pieces));
   is = (by.operand, by.is, refl);
-  leaves = subst (λ (a : Answer (List Piece)). Leaves done k (marking state 0x4D label (a >>= λ pieces. Ok (records_of pieces))))
+  leaves = subst (λ (a : Answer (List Piece)). Leaves done k (marking state INSTRUCTION_LABEL label (a >>= λ pieces. Ok (records_of pieces))))
       (by.gives ∙ ap (λ (c : Constants). by.operand >>= instruction c widths m) same ∙ ap (λ (w : Widths). by.operand >>= instruction (constants_of state) w m) same_widths) leaves;
 }

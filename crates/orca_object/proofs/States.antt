@@ -1,6 +1,7 @@
 -- What lines leave, as it is kept.
 use Rattle.std.proofs.Common.{◌≡◌, ℕ, ◌+◌, subst, List, [], ◌∷◌, ◌++◌, length, replicate, true, false, Option, Some, None, refl, sym, ap, ◌∙◌, arith}
 use Rattle.std.specs.Prelude.{◌%◌}
+use Rattle.omf_format.specs.declared.codes.TheConstants.{DIRECTIVE_LABEL}
 use Rattle.omf_format.specs.Expression.{Leaf, Constant}
 use Rattle.omf_format.specs.Field.{written_layout}
 use Rattle.omf_format.specs.Header.{HeaderFields}
@@ -73,10 +74,10 @@ shows_start outside front object none first all = record {
 -- ---- a constant from outside
 
 pub constant_more : (state : State) (old new : RecordBytes) (name : List ℕ) (n : ℕ) (expr : List ℕ) → expr ≡ expression_text (Leaf (Constant n)) → kept_text old ≡ text_within_limit (records_text state.front)
-    → ((text : List ℕ) → kept_text old ≡ text_within_limit text → kept_text new ≡ text_within_limit (text ++ spelling written_layout (Equate true name 0 0x4E 0 expr)))
+    → ((text : List ℕ) → kept_text old ≡ text_within_limit text → kept_text new ≡ text_within_limit (text ++ spelling written_layout (Equate true name 0 DIRECTIVE_LABEL 0 expr)))
     → kept_text new ≡ text_within_limit (records_text (with_constant name n state).front)
 constant_more state old new name n expr is shows put =
-    put (records_text state.front) shows ∙ ap (λ (e : List ℕ). text_within_limit (records_text state.front ++ spelling written_layout (Equate true name 0 0x4E 0 e))) is
+    put (records_text state.front) shows ∙ ap (λ (e : List ℕ). text_within_limit (records_text state.front ++ spelling written_layout (Equate true name 0 DIRECTIVE_LABEL 0 e))) is
     ∙ ap text_within_limit (sym (records_text-one state.front (equate true name (Leaf (Constant n)))))
 
 pub constant_waits : (state : State) (name : List ℕ) (n : ℕ) → place_after 0 state.front ≡ 0 → place_after 0 (with_constant name n state).front ≡ 0

@@ -1,5 +1,6 @@
 -- What directives leave, by the formula of their operand.
 use Rattle.std.specs.Prelude.{◌≡◌, ℕ, Bool, List, [], ◌∷◌, Option, Result, Ok}
+use Rattle.omf_format.specs.declared.codes.TheConstants.{DIRECTIVE_LABEL}
 use Rattle.omf_format.specs.Field.{◌>>=◌}
 use Rattle.omf_format.specs.Expression.{Tree}
 use Rattle.omf_format.specs.Record.{End}
@@ -20,7 +21,7 @@ pub record HasDistance (state : State) (text : List ℕ) (number : Answer ℕ) :
 
 -- END
 abbrev pub ending : State → Answer (List ℕ) → Answer State
-ending state label = marking state 0x4E label (Ok (End ∷ [])) >>= λ left. Ok (state_after_end left)
+ending state label = marking state DIRECTIVE_LABEL label (Ok (End ∷ [])) >>= λ left. Ok (state_after_end left)
 
 -- EQU, and GEQU in a segment
 pub record IsEquated {U : Type 0} (state : State) (global : Bool) (label : Answer (List ℕ)) (text : List ℕ) (done : Result U AsmCause) (k : AsmState) : Type 0 where

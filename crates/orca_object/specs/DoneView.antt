@@ -1,5 +1,6 @@
 -- What directives leave, by the number that their operand is.
 use Rattle.std.specs.Prelude.{ℕ, ◌≤◌, length, List, [], ◌∷◌, Ok, Err}
+use Rattle.omf_format.specs.declared.codes.TheConstants.{DIRECTIVE_LABEL}
 use Rattle.omf_format.specs.Field.{◌>>=◌}
 use Rattle.omf_format.specs.Record.{Space, Using}
 use Rattle.asm_meaning.specs.Answer.{Answer, pair_or_earlier_fault}
@@ -12,10 +13,10 @@ IsSome (Ok name) = 1 ≤ length name
 IsSome (Err cause) = Unit {0}
 
 abbrev pub using_by : State → Answer (List ℕ) → Answer (List ℕ) → Answer State
-using_by state label found = marking state 0x4E label (found >>= λ name. Ok (Using name ∷ []))
+using_by state label found = marking state DIRECTIVE_LABEL label (found >>= λ name. Ok (Using name ∷ []))
 
 abbrev pub spaced_by : State → Answer (List ℕ) → Answer ℕ → Answer State
-spaced_by state label number = pair_or_earlier_fault label number >>= λ (name, n). Ok (in_segment (with_local_record name 0x4E (Space n ∷ [])) state)
+spaced_by state label number = pair_or_earlier_fault label number >>= λ (name, n). Ok (in_segment (with_local_record name DIRECTIVE_LABEL (Space n ∷ [])) state)
 
 abbrev pub aligned_by : State → Answer (List ℕ) → Answer ℕ → Answer State
 aligned_by state label number = pair_or_earlier_fault label (number >>= alignment_in state) >>= λ (name, n). Ok (state_after_align state state.segment name n)
@@ -24,4 +25,4 @@ abbrev pub moved_by : State → Answer (List ℕ) → Answer ℕ → Answer Stat
 moved_by state label number = pair_or_earlier_fault label (number >>= distance_in state.segment) >>= λ (name, n). Ok (state_after_org state state.segment name n)
 
 abbrev pub kinded_by : State → Answer (List ℕ) → Answer ℕ → Answer State
-kinded_by state label number = pair_or_earlier_fault label (number >>= listed_kind) >>= λ (name, n). Ok (in_segment (λ s. with_kind n (with_local_record name 0x4E [] s)) state)
+kinded_by state label number = pair_or_earlier_fault label (number >>= listed_kind) >>= λ (name, n). Ok (in_segment (λ s. with_kind n (with_local_record name DIRECTIVE_LABEL [] s)) state)

@@ -2,6 +2,7 @@
 //! Reference, appendix F).
 
 ghost use Rattle.std.specs.Prelude.{◌≡◌, ◌≤◌, [], Some, IfOk, OnOk, Ok};
+ghost use Rattle.omf_format.specs.declared.codes.TheConstants.{DIRECTIVE_LABEL};
 ghost use Rattle.orca_meaning.specs.Line.{Line, LiesIn};
 ghost use Rattle.orca_text.specs.OperandView.{line_mnemonic, line_operand};
 ghost use Rattle.asm_meaning.specs.declared.directives.Operation.TheVariants.{Instruct, Direct};
@@ -17,9 +18,10 @@ use crate::state::{AsmState, OpenSegment};
 use crate::statement::{constants_given, instruction_given};
 use asm_meaning::AsmCause;
 use omf_base::Name;
+use omf_format::{DIRECTIVE_LABEL, INSTRUCTION_LABEL};
 use omf_records::Rec;
 use orca_operands::{Encoding, label_and_encoding, number_in, pair_or_earlier_fault};
-use orca_text::{LinePart, Mnemonic, SourceLine};
+use orca_text::{DecodedLine, LinePart, Mnemonic};
 use std::alloc::{AllocError, Global};
 
 impl OpenSegment {
@@ -54,6 +56,7 @@ impl OpenSegment {
 
 impl AsmState {
     ghost use Rattle.std.specs.Prelude.{◌≡◌, ◌∷◌, [], IfOk, Ok};
+    ghost use Rattle.omf_format.specs.declared.codes.TheConstants.{DIRECTIVE_LABEL};
     ghost use Rattle.omf_format.specs.Record.{Space};
     ghost use Rattle.asm_meaning.specs.State.{State, in_segment, with_local_record};
     ghost use Rattle.orca_operands.specs.GivenView.{given_pieces, given_records};
@@ -84,7 +87,7 @@ impl AsmState {
         label: &Name,
         n: u32,
     ) -> Result<Result<(), AsmCause>, AllocError>
-        ensures { IfOk result (λ done. (state : State) → ShowsState state self.old → Leaves done self.new (Ok (in_segment (with_local_record label.now 0x4E (Space n ∷ [])) state))) }
+        ensures { IfOk result (λ done. (state : State) → ShowsState state self.old → Leaves done self.new (Ok (in_segment (with_local_record label.now DIRECTIVE_LABEL (Space n ∷ [])) state))) }
     {
         if let Some(open) = &mut self.segment {
             return open.give_record(alloc, label, &Rec::Space { n }, u64::from(n));
@@ -117,15 +120,15 @@ pub(crate) fn do_instruct(
     kept: &mut AsmState,
     mnemonic: Mnemonic,
     label: Result<Name, AsmCause>,
-    line: &SourceLine,
+    line: &DecodedLine,
 ) -> Result<Result<(), AsmCause>, AllocError>
-    requires operation { LiesIn line.now.text line.now.operation }
-    requires operand { LiesIn line.now.text line.now.operand }
-    requires mnemonic { line_mnemonic line.now ≡ Some mnemonic }
-    ensures { IfOk result (λ done. (state : State) (l : Line) → ShowsState state kept.old → IsLeft state l (Instruct mnemonic) label (line_operand line.now) done kept.new) }
+    requires operation { LiesIn line.now.line.text line.now.line.operation }
+    requires operand { LiesIn line.now.line.text line.now.line.operand }
+    requires mnemonic { line_mnemonic line.now.line ≡ Some mnemonic }
+    ensures { IfOk result (λ done. (state : State) (l : Line) → ShowsState state kept.old → IsLeft state l (Instruct mnemonic) label (line_operand line.now.line) done kept.new) }
 {
     let given = instruction_given(alloc, kept.known_constants(), kept.widths, mnemonic, line)?;
-    give_statement(alloc, kept, 0x4D, label, given)
+    give_statement(alloc, kept, INSTRUCTION_LABEL, label, given)
 }
 
 /// DC.
@@ -140,7 +143,7 @@ pub(crate) fn do_constants(
     let known = kept.known_constants();
     known.recall_small();
     let given = constants_given(alloc, known, kept.msb, text)?;
-    give_statement(alloc, kept, 0x4E, label, given)
+    give_statement(alloc, kept, DIRECTIVE_LABEL, label, given)
 }
 
 /// ANOP, and the directives without effect.
@@ -149,7 +152,7 @@ pub(crate) fn do_anop(
     kept: &mut AsmState,
     label: Result<Name, AsmCause>,
 ) -> Result<Result<(), AsmCause>, AllocError>
-    ensures { IfOk result (λ done. (state : State) → ShowsState state kept.old → Leaves done kept.new (marking state 0x4E label (Ok []))) }
+    ensures { IfOk result (λ done. (state : State) → ShowsState state kept.old → Leaves done kept.new (marking state DIRECTIVE_LABEL label (Ok []))) }
 {
     match label {
         Ok(name) => {

@@ -19,6 +19,7 @@ ghost use Rattle.orca_object.specs.DoingView.{IsEquated, IsConstant};
 use crate::state::AsmState;
 use asm_meaning::AsmCause;
 use omf_base::Name;
+use omf_format::DIRECTIVE_LABEL;
 use omf_records::Rec;
 use orca_operands::{
     Amount, amount_in, number_in, number_text, pair_or_earlier_fault, shift_and_end,
@@ -86,7 +87,7 @@ impl AsmState {
             global,
             name: label.bytes(),
             length: 0,
-            form: 0x4E,
+            form: DIRECTIVE_LABEL,
             private: 0,
             expr: expr.as_slice(),
         };
@@ -109,7 +110,7 @@ impl AsmState {
             global: true,
             name,
             length: 0,
-            form: 0x4E,
+            form: DIRECTIVE_LABEL,
             private: 0,
             expr: expr.as_slice(),
         };

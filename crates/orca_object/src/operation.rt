@@ -3,6 +3,7 @@
 
 ghost use Rattle.std.specs.Prelude.{◌≡◌, bytes_eq, is_some, IfOk, true};
 ghost use Rattle.orca_meaning.specs.Characters.{folded};
+ghost use Rattle.orca_meaning.specs.Line.{LiesIn, part};
 ghost use Rattle.orca_meaning.specs.Operation.{value_of_spelling};
 ghost use Rattle.asm_meaning.specs.Operations.{directives, ignored_directives, as_ignored, operation_of};
 ghost use Rattle.orca_object.specs.Tables.{directives_after_gequ};
@@ -16,7 +17,7 @@ use crate::state::AsmState;
 use asm_meaning::{AsmCause, Class, Directive, Operation, Switch};
 use omf_base::Name;
 use orca_operands::{following_here, is_name};
-use orca_text::{LinePart, is_spelled, mnemonic_of, to_upper_case};
+use orca_text::{DecodedLine, LinePart, is_spelled, to_upper_case};
 use std::alloc::{AllocError, Global};
 
 /// Whether an operation has this spelling.
@@ -137,15 +138,17 @@ fn directive_of(operation: &[u8]) -> Option<Directive>
     later_directive(operation)
 }
 
-/// What an operation is. A line without one is read as ANOP.
+/// What a line's operation is. A line without one is read as ANOP.
 #[tactic(auto, unfolding(asm_meaning::specs::Operations::operation_of))]
-pub(crate) fn operation_of(operation: &[u8]) -> Option<Operation>
-    ensures { result ≡ operation_of operation.now }
+pub(crate) fn operation_of(of: &DecodedLine) -> Option<Operation>
+    requires { LiesIn of.now.line.text of.now.line.operation }
+    ensures { result ≡ operation_of (part of.now.line.text of.now.line.operation) }
 {
+    let operation = of.line.part(of.line.operation).bytes;
     if operation.is_empty() {
         return Some(Operation::Direct(Directive::Nothing));
     }
-    if let Some(mnemonic) = mnemonic_of(operation) {
+    if let Some(mnemonic) = of.operation.mnemonic {
         return Some(Operation::Instruct(mnemonic));
     }
     match directive_of(operation) {

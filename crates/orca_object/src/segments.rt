@@ -20,6 +20,7 @@ use crate::object::put_segment;
 use crate::state::{AsmState, OpenSegment, SegmentBody};
 use asm_meaning::{AsmCause, Class};
 use omf_base::Name;
+use omf_format::DIRECTIVE_LABEL;
 use omf_header::{Header, Kind, header_size};
 use omf_records::Rec;
 use orca_operands::{
@@ -134,6 +135,7 @@ fn listed_kind(n: u32) -> Result<u16, AsmCause>
 
 impl AsmState {
     ghost use Rattle.std.specs.Prelude.{◌≡◌, ◌≤◌, ◌∷◌, [], length, OnOk, true, None};
+    ghost use Rattle.omf_format.specs.declared.codes.TheConstants.{DIRECTIVE_LABEL};
     ghost use Rattle.orca_meaning.specs.Line.{Line};
     ghost use Rattle.omf_format.specs.Record.{End, Label, Using};
     ghost use Rattle.asm_meaning.specs.State.{State, in_segment, with_local_record, state_after_start, state_after_end, with_records};
@@ -179,7 +181,7 @@ impl AsmState {
 
     /// END.
     fn end(&mut self, alloc: Global, label: &Name) -> Result<(), AllocError>
-        ensures { OnOk result ((state : State) → ShowsState state self.old → ShowsState (state_after_end (in_segment (with_local_record label.now 0x4E (End ∷ [])) state)) self.new) }
+        ensures { OnOk result ((state : State) → ShowsState state self.old → ShowsState (state_after_end (in_segment (with_local_record label.now DIRECTIVE_LABEL (End ∷ [])) state)) self.new) }
     {
         let mut open = match mem::replace(&mut self.segment, None) {
             Some(open) => open,
@@ -195,7 +197,7 @@ impl AsmState {
     /// KIND.
     fn kind(&mut self, alloc: Global, label: &Name, n: u16) -> Result<(), AllocError>
         requires listed { is_listed (form_of n) ≡ true }
-        ensures { OnOk result ((state : State) → ShowsState state self.old → ShowsState (in_segment (λ s. with_kind n (with_local_record label.now 0x4E [] s)) state) self.new) }
+        ensures { OnOk result ((state : State) → ShowsState state self.old → ShowsState (in_segment (λ s. with_kind n (with_local_record label.now DIRECTIVE_LABEL [] s)) state) self.new) }
     {
         if let Some(open) = &mut self.segment {
             open.mark_alone(alloc, label)?;
@@ -208,7 +210,7 @@ impl AsmState {
     /// USING.
     fn using(&mut self, alloc: Global, label: &Name, name: &Name) -> Result<(), AllocError>
         requires some { 1 ≤ length name.now }
-        ensures { OnOk result ((state : State) → ShowsState state self.old → ShowsState (in_segment (with_local_record label.now 0x4E (Using name.now ∷ [])) state) self.new) }
+        ensures { OnOk result ((state : State) → ShowsState state self.old → ShowsState (in_segment (with_local_record label.now DIRECTIVE_LABEL (Using name.now ∷ [])) state) self.new) }
     {
         let using = Rec::Using { name: name.bytes() };
         if let Some(open) = &mut self.segment {
@@ -221,13 +223,13 @@ impl AsmState {
     /// ENTRY.
     fn entry(&mut self, alloc: Global, label: &Name) -> Result<(), AllocError>
         requires some { 1 ≤ length label.now }
-        ensures { OnOk result ((state : State) → ShowsState state self.old → ShowsState (in_segment (with_records label.now None (Label true label.now 0 0x4E 0 ∷ []) []) state) self.new) }
+        ensures { OnOk result ((state : State) → ShowsState state self.old → ShowsState (in_segment (with_records label.now None (Label true label.now 0 DIRECTIVE_LABEL 0 ∷ []) []) state) self.new) }
     {
         let global = Rec::Label {
             global: true,
             name: label.bytes(),
             length: 0,
-            form: 0x4E,
+            form: DIRECTIVE_LABEL,
             private: 0,
         };
         if let Some(open) = &mut self.segment {

@@ -7,6 +7,7 @@ ghost use Rattle.asm_meaning.specs.State.{greatest_length};
 
 use asm_meaning::{AsmCause, Class};
 use omf_base::Name;
+use omf_format::DIRECTIVE_LABEL;
 use omf_records::Rec;
 use orca_operands::{
     DefinedNames, KnownConstants, OutsideConstants, RecordBytes, RecordWriter, Widths,
@@ -122,6 +123,7 @@ impl SegmentBody {
 
 impl OpenSegment {
     ghost use Rattle.std.specs.Prelude.{◌≡◌, ◌∷◌, [], OnOk, IfOk};
+    ghost use Rattle.omf_format.specs.declared.codes.TheConstants.{DIRECTIVE_LABEL};
     ghost use Rattle.omf_format.specs.Field.{written_layout};
     ghost use Rattle.omf_format.specs.Record.{IsRecord};
     ghost use Rattle.omf_records.specs.View.{view};
@@ -203,9 +205,9 @@ impl OpenSegment {
 
     /// The label of a directive that gives no records.
     pub(crate) fn mark_alone(&mut self, alloc: Global, label: &Name) -> Result<(), AllocError>
-        ensures { OnOk result ((s : StartedSegment) → ShowsSegment s self.old → ShowsSegment (with_local_record label.now 0x4E [] s) self.new) }
+        ensures { OnOk result ((s : StartedSegment) → ShowsSegment s self.old → ShowsSegment (with_local_record label.now DIRECTIVE_LABEL [] s) self.new) }
     {
-        self.mark(alloc, label, 0x4E, 0)
+        self.mark(alloc, label, DIRECTIVE_LABEL, 0)
     }
 
     /// A record that gives no cells, with the label of its directive.
@@ -217,9 +219,9 @@ impl OpenSegment {
     ) -> Result<(), AllocError>
         requires record { IsRecord written_layout (view rec.now) }
         requires none { size_at self.old.body.cells (view rec.now) ≡ 0 }
-        ensures { OnOk result ((s : StartedSegment) → ShowsSegment s self.old → ShowsSegment (with_local_record label.now 0x4E (view rec.now ∷ []) s) self.new) }
+        ensures { OnOk result ((s : StartedSegment) → ShowsSegment s self.old → ShowsSegment (with_local_record label.now DIRECTIVE_LABEL (view rec.now ∷ []) s) self.new) }
     {
-        self.mark(alloc, label, 0x4E, 0)?;
+        self.mark(alloc, label, DIRECTIVE_LABEL, 0)?;
         self.put(rec)
     }
 
@@ -233,9 +235,9 @@ impl OpenSegment {
     ) -> Result<Result<(), AsmCause>, AllocError>
         requires record { IsRecord written_layout (view rec.now) }
         requires size { size ≡ size_at self.old.body.cells (view rec.now) }
-        ensures { IfOk result (λ done. (s : StartedSegment) → ShowsSegment s self.old → ShowsGrown done (with_local_record label.now 0x4E (view rec.now ∷ []) s) self.new) }
+        ensures { IfOk result (λ done. (s : StartedSegment) → ShowsSegment s self.old → ShowsGrown done (with_local_record label.now DIRECTIVE_LABEL (view rec.now ∷ []) s) self.new) }
     {
-        self.mark(alloc, label, 0x4E, size)?;
+        self.mark(alloc, label, DIRECTIVE_LABEL, size)?;
         match self.body.grow(size) {
             Ok(()) => {
                 self.body.writer.text.put(rec)?;
@@ -250,6 +252,7 @@ impl AsmState {
     ghost use Rattle.std.specs.Prelude.{◌≡◌, [], is_some, None, OnOk};
     ghost use Rattle.asm_meaning.specs.State.{State, start, in_segment, with_local_record};
     ghost use Rattle.asm_meaning.specs.laws.Steps.{is_too_long};
+    ghost use Rattle.omf_format.specs.declared.codes.TheConstants.{DIRECTIVE_LABEL};
     ghost use Rattle.asm_meaning.specs.declared.directives.Operation.{Operation};
     ghost use Rattle.asm_meaning.specs.Statement.{constants_of, is_taken, begins_segment};
     ghost use Rattle.orca_operands.specs.NamesView.{constants};
@@ -325,7 +328,7 @@ impl AsmState {
 
     /// The label of a directive that gives no records.
     pub(crate) fn mark_alone(&mut self, alloc: Global, label: &Name) -> Result<(), AllocError>
-        ensures { OnOk result ((state : State) → ShowsState state self.old → ShowsState (in_segment (with_local_record label.now 0x4E []) state) self.new) }
+        ensures { OnOk result ((state : State) → ShowsState state self.old → ShowsState (in_segment (with_local_record label.now DIRECTIVE_LABEL []) state) self.new) }
     {
         if let Some(open) = &mut self.segment {
             open.mark_alone(alloc, label)?;

@@ -16,7 +16,9 @@ use orca_operands::{
     Encoding, KnownConstants, RepeatedPieces, Widths, answer_or_fault, element_at, gather_answer,
     instruct,
 };
-use orca_text::{LinePart, Mnemonic, SourceLine, TextCause, after_byte, read_operand};
+use orca_text::{
+    DecodedLine, LinePart, Mnemonic, SourceLine, TextCause, after_byte, read_decoded_operand,
+};
 use std::alloc::{AllocError, Global};
 
 /// The operand of a line has at most 255 bytes.
@@ -33,17 +35,17 @@ pub(crate) fn instruction_given(
     known: KnownConstants<'_>,
     of: Widths,
     mnemonic: Mnemonic,
-    line: &SourceLine,
+    line: &DecodedLine,
 ) -> Result<Result<Encoding, AsmCause>, AllocError>
-    requires operation { LiesIn line.now.text line.now.operation }
-    requires operand { LiesIn line.now.text line.now.operand }
-    requires mnemonic { line_mnemonic line.now ≡ Some mnemonic }
-    ensures given { IfOk result (λ answer. IsByInstruction (constants known.entry) (widths of) mnemonic (line_operand line.now) (given_answer answer)) }
+    requires operation { LiesIn line.now.line.text line.now.line.operation }
+    requires operand { LiesIn line.now.line.text line.now.line.operand }
+    requires mnemonic { line_mnemonic line.now.line ≡ Some mnemonic }
+    ensures given { IfOk result (λ answer. IsByInstruction (constants known.entry) (widths of) mnemonic (line_operand line.now.line) (given_answer answer)) }
     ensures plain { IfOk result IsPlainAnswer }
 {
-    know_short(line);
+    know_short(&line.line);
     known.recall_small();
-    match read_operand(alloc, line) {
+    match read_decoded_operand(alloc, line) {
         Ok(operand) => {
             let answer = instruct(alloc, known, of, mnemonic, &operand)?;
             Ok(answer)

@@ -4,7 +4,7 @@
 ghost use Rattle.std.specs.Prelude.{◌≡◌, [], List, true, false, Some, IfOk, OnOk, Err};
 ghost use Rattle.orca_meaning.specs.Line.{Line, LiesIn, HaveFields, part};
 ghost use Rattle.orca_text.specs.OperandView.{line_operand};
-ghost use Rattle.orca_text.specs.View.{line};
+ghost use Rattle.orca_text.specs.DecodedView.{decoded_line};
 ghost use Rattle.asm_meaning.specs.declared.directives.Operation.TheVariants.{Direct};
 ghost use Rattle.asm_meaning.specs.Operations.{operation_of};
 ghost use Rattle.asm_meaning.specs.State.{State};
@@ -23,7 +23,7 @@ use crate::state::AsmState;
 use crate::switches::turning;
 use asm_meaning::{AsmCause, AsmFault, Directive, Operation};
 use omf_base::Name;
-use orca_text::{LinePart, Lines, SourceLine};
+use orca_text::{DecodedLine, LinePart, Lines, SourceLine};
 use std::alloc::{AllocError, Global};
 
 /// A directive that needs no label.
@@ -58,19 +58,27 @@ fn do_operation(
     kept: &mut AsmState,
     operation: Operation,
     label: Result<Name, AsmCause>,
-    of: &SourceLine,
+    of: &DecodedLine,
 ) -> Result<Result<(), AsmCause>, AllocError>
-    requires operation { LiesIn of.now.text of.now.operation }
-    requires operand { LiesIn of.now.text of.now.operand }
-    requires is { operation_of (part of.now.text of.now.operation) ≡ Some operation }
+    requires operation { LiesIn of.now.line.text of.now.line.operation }
+    requires operand { LiesIn of.now.line.text of.now.line.operand }
+    requires is { operation_of (part of.now.line.text of.now.line.operation) ≡ Some operation }
     requires some { needs_label operation ≡ true → IsSome label }
-    ensures { IfOk result (λ done. (state : State) → ShowsState state kept.old → IsLeft state (line of.now) operation label (line_operand of.now) done kept.new) }
+    ensures { IfOk result (λ done. (state : State) → ShowsState state kept.old → IsLeft state (decoded_line of.now) operation label (line_operand of.now.line) done kept.new) }
 {
-    let text = of.part(of.operand);
+    let text = of.line.part(of.line.operand);
     match operation {
         Operation::Instruct(mnemonic) => do_instruct(alloc, kept, mnemonic, label, of),
         Operation::Direct(Directive::Begin(class)) => {
-            do_begin(alloc, kept, of.file, of.line, class, label, text.bytes)
+            do_begin(
+                alloc,
+                kept,
+                of.line.file,
+                of.line.line,
+                class,
+                label,
+                text.bytes,
+            )
         }
         Operation::Direct(Directive::Entry) => do_entry(alloc, kept, label),
         Operation::Direct(Directive::Equ) => do_equ(alloc, kept, label, text),
@@ -97,13 +105,13 @@ fn finish(
     kept: &mut AsmState,
     operation: Operation,
     label: Result<Name, AsmCause>,
-    of: &SourceLine,
+    of: &DecodedLine,
 ) -> Result<Result<(), AsmCause>, AllocError>
-    requires operation { LiesIn of.now.text of.now.operation }
-    requires operand { LiesIn of.now.text of.now.operand }
-    requires is { operation_of (part of.now.text of.now.operation) ≡ Some operation }
+    requires operation { LiesIn of.now.line.text of.now.line.operation }
+    requires operand { LiesIn of.now.line.text of.now.line.operand }
+    requires is { operation_of (part of.now.line.text of.now.line.operation) ≡ Some operation }
     requires some { needs_label operation ≡ true → IsSome label }
-    ensures { IfOk result (λ done. (state : State) → ShowsState state kept.old → IsPlacedAs state (line of.now) operation label (line_operand of.now) done kept.new) }
+    ensures { IfOk result (λ done. (state : State) → ShowsState state kept.old → IsPlacedAs state (decoded_line of.now) operation label (line_operand of.now.line) done kept.new) }
 {
     let done = do_operation(alloc, kept, operation, label, of)?;
     match done {
@@ -121,16 +129,21 @@ fn finish(
 fn step(
     alloc: Global,
     kept: &mut AsmState,
-    of: &SourceLine,
+    of: &DecodedLine,
 ) -> Result<Result<(), AsmCause>, AllocError>
-    requires fields { HaveFields of.now.text (line of.now).fields }
-    ensures { IfOk result (λ done. (state : State) → ShowsState state kept.old → Steps state (line of.now) done kept.new) }
+    requires fields { HaveFields of.now.line.text (decoded_line of.now).fields }
+    ensures { IfOk result (λ done. (state : State) → ShowsState state kept.old → Steps state (decoded_line of.now) done kept.new) }
 {
-    let Some(operation) = operation_of(of.part(of.operation).bytes) else {
+    let Some(operation) = operation_of(of) else {
         return Ok(Err(AsmCause::UnknownOperation));
     };
-    let text = of.part(of.label);
-    if is_misplaced(kept, operation, text.bytes, of.part(of.operand).bytes) {
+    let text = of.line.part(of.line.label);
+    if is_misplaced(
+        kept,
+        operation,
+        text.bytes,
+        of.line.part(of.line.operand).bytes,
+    ) {
         return Ok(Err(AsmCause::OutsideSegment));
     }
     let label = label_of(alloc, kept, operation, text)?;
@@ -156,13 +169,13 @@ fn step_all(alloc: Global, lines: &Lines) -> Result<Result<AsmState, AsmFault>, 
     let mut place: u32 = 0;
     let count = lines.count();
     'lines: while place < count {
-        let line = match lines.get(place) {
+        let line = match lines.get_decoded(place) {
             Some(line) => line,
             None => unreachable!(),
         };
         match step(alloc, &mut kept, line)? {
             Ok(()) => {}
-            Err(cause) => return Ok(Err(fault_at(line, cause))),
+            Err(cause) => return Ok(Err(fault_at(&line.line, cause))),
         }
         place += 1;
     }

@@ -28,6 +28,7 @@ fn switch_of(text: &[u8]) -> Result<bool, AsmCause>
 
 impl AsmState {
     ghost use Rattle.std.specs.Prelude.{[], OnOk};
+    ghost use Rattle.omf_format.specs.declared.codes.TheConstants.{DIRECTIVE_LABEL};
     ghost use Rattle.asm_meaning.specs.State.{State, in_segment, with_local_record, with_switch_set};
     ghost use Rattle.orca_object.specs.StateView.{ShowsState};
 
@@ -39,7 +40,7 @@ impl AsmState {
         switch: Switch,
         on: bool,
     ) -> Result<(), AllocError>
-        ensures { OnOk result ((state : State) → ShowsState state self.old → ShowsState (with_switch_set switch on (in_segment (with_local_record label.now 0x4E []) state)) self.new) }
+        ensures { OnOk result ((state : State) → ShowsState state self.old → ShowsState (with_switch_set switch on (in_segment (with_local_record label.now DIRECTIVE_LABEL []) state)) self.new) }
     {
         self.mark_alone(alloc, label)?;
         match switch {

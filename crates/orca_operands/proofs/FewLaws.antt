@@ -3,6 +3,7 @@ use Rattle.std.proofs.Common.{◌≡◌, ◌≢◌, ℕ, zero, suc, ◌+◌, ◌
 use Rattle.std.proofs.lemmas.Bool.{eqb-true, eq-eqb}
 use Rattle.std.specs.Global.{Vec}
 use Rattle.byteorder.specs.Endian.{little_bytes}
+use Rattle.omf_format.specs.declared.codes.TheConstants.{RELEXPR}
 use Rattle.omf_format.specs.Record.{Const, Formula, spelling}
 use Rattle.asm_meaning.specs.Object.{records_text}
 use Rattle.asm_meaning.specs.Pieces.{constant_records, records_after}
@@ -43,20 +44,20 @@ abbrev operand_text : ℕ → ℕ → ℕ → ℕ → List ℕ → List ℕ
 operand_text opcode code count n expr = records_text (Const (opcode ∷ []) ∷ Formula code count n expr ∷ [])
 
 -- its two records, by whether it is a distance
-operand_text_is : (opcode code count n : ℕ) (expr : List ℕ) → front_of opcode code count (cond (eqb code 0xEE) (little_bytes 4 n ++ expr) expr ++ []) ≡ operand_text opcode code count n expr
+operand_text_is : (opcode code count n : ℕ) (expr : List ℕ) → front_of opcode code count (cond (eqb code RELEXPR) (little_bytes 4 n ++ expr) expr ++ []) ≡ operand_text opcode code count n expr
 unfolding records_text spelling
 operand_text_is opcode code count n expr = refl
 
-pub far_text : (opcode code count n : ℕ) (front expr : List ℕ) → code ≡ 0xEE → front ≡ 1 ∷ opcode ∷ code ∷ count ∷ little_bytes 4 n → front ++ expr ≡ records_text (Const (opcode ∷ []) ∷ Formula code count n expr ∷ [])
+pub far_text : (opcode code count n : ℕ) (front expr : List ℕ) → code ≡ RELEXPR → front ≡ 1 ∷ opcode ∷ code ∷ count ∷ little_bytes 4 n → front ++ expr ≡ records_text (Const (opcode ∷ []) ∷ Formula code count n expr ∷ [])
 far_text opcode code count n front expr is front_is =
     ap (λ (l : List ℕ). l ++ expr) front_is ∙ ap (front_of opcode code count) (sym (append-nil (little_bytes 4 n ++ expr)))
-    ∙ ap (λ (b : Bool). front_of opcode code count (cond b (little_bytes 4 n ++ expr) expr ++ [])) (sym (eq-eqb code 0xEE is)) ∙ operand_text_is opcode code count n expr
+    ∙ ap (λ (b : Bool). front_of opcode code count (cond b (little_bytes 4 n ++ expr) expr ++ [])) (sym (eq-eqb code RELEXPR is)) ∙ operand_text_is opcode code count n expr
 
-pub near_text : (opcode code count n : ℕ) (expr : List ℕ) → code ≢ 0xEE → (1 ∷ opcode ∷ code ∷ count ∷ []) ++ expr ≡ records_text (Const (opcode ∷ []) ∷ Formula code count n expr ∷ [])
-near_text opcode code count n expr other = by_code (eqb code 0xEE) refl ∙ operand_text_is opcode code count n expr
+pub near_text : (opcode code count n : ℕ) (expr : List ℕ) → code ≢ RELEXPR → (1 ∷ opcode ∷ code ∷ count ∷ []) ++ expr ≡ records_text (Const (opcode ∷ []) ∷ Formula code count n expr ∷ [])
+near_text opcode code count n expr other = by_code (eqb code RELEXPR) refl ∙ operand_text_is opcode code count n expr
   where
-    by_code : (b : Bool) → eqb code 0xEE ≡ b → front_of opcode code count expr ≡ front_of opcode code count (cond b (little_bytes 4 n ++ expr) expr ++ [])
-    by_code true e = absurd (other (eqb-true code 0xEE e))
+    by_code : (b : Bool) → eqb code RELEXPR ≡ b → front_of opcode code count expr ≡ front_of opcode code count (cond b (little_bytes 4 n ++ expr) expr ++ [])
+    by_code true e = absurd (other (eqb-true code RELEXPR e))
     by_code false e = ap (front_of opcode code count) (sym (append-nil expr))
 
 -- the records of what an instruction gives

@@ -28,6 +28,7 @@ use crate::piece::Piece;
 use asm_meaning::AsmCause;
 use omf_base::{Name, NameFault};
 use omf_expr::{Term, put_term};
+use omf_format::EXPR;
 use orca_text::{LinePart, after_byte};
 use std::alloc::{AllocError, Global};
 
@@ -180,7 +181,7 @@ fn weak_pieces(alloc: Global, names: &[Name]) -> Result<Vec<Piece>, AllocError>
     'names: for name in names {
         let expr = weak_text(alloc, name.bytes())?;
         out.push(Piece::Formula {
-            code: 0xEB,
+            code: EXPR,
             count: 2,
             n: 0,
             expr,

@@ -33,6 +33,7 @@ use crate::names::KnownConstants;
 use crate::piece::{Piece, number_text, shift_and_end};
 use crate::short_bytes::ShortBytes;
 use asm_meaning::AsmCause;
+use omf_format::{BEXPR, EXPR, LEXPR, RELEXPR, ZEXPR};
 use orca_meaning::{Form, Mnemonic, Mode, Prefix};
 use orca_text::{FormulaTerm, Operand};
 use std::alloc::{AllocError, Global};
@@ -65,15 +66,15 @@ fn address_code(mnemonic: Mnemonic, bytes: u8) -> u8
     ensures { result ≡ address_code mnemonic bytes }
 {
     if bytes == 1 {
-        return 0xEC;
+        return ZEXPR;
     }
     if bytes == 2 {
-        return 0xED;
+        return BEXPR;
     }
     if is_long_jump(mnemonic) {
-        return 0xF3;
+        return LEXPR;
     }
-    0xEB
+    EXPR
 }
 
 /// An opcode, and the record of an operand of a given number of bytes with this expression.
@@ -97,7 +98,7 @@ fn with_record(
         },
         OperandKind::Distance(_) => Encoding::Operand {
             opcode,
-            code: 0xEE,
+            code: RELEXPR,
             count: width,
             n: u32::from(width),
             expr,
@@ -105,7 +106,7 @@ fn with_record(
         OperandKind::Missing | OperandKind::Value | OperandKind::Banks | OperandKind::Sign =>
             Encoding::Operand {
                 opcode,
-                code: 0xEB,
+                code: EXPR,
                 count: width,
                 n: 0,
                 expr,
@@ -227,7 +228,7 @@ fn bank_record(alloc: Global, amount: Amount) -> Result<Piece, AllocError>
     let text = bank_text(alloc, amount)?;
     let expr = shift_and_end(text, 0)?;
     Ok(Piece::Formula {
-        code: 0xEB,
+        code: EXPR,
         count: 1,
         n: 0,
         expr,

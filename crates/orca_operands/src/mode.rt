@@ -1,6 +1,6 @@
 //! Which addressing mode an operand has (WDC 65C816 data sheet, addressing modes).
 
-ghost use Rattle.std.specs.Prelude.{◌≡◌, ◌+◌, ◌-◌, ◌^◌, ◌≤◌, ◌<◌, ◌==◌, ◌&&◌, true, map, filter, find, length, nat_lt, nat_le, ◌/◌, Some, None, Ok, Err};
+ghost use Rattle.std.specs.Prelude.{◌≡◌, ◌+◌, ◌-◌, ◌^◌, ◌≤◌, ◌<◌, ◌==◌, ◌&&◌, ◌∷◌, [], true, map, filter, find, length, nat_lt, nat_le, ◌/◌, Some, None, Ok, Err, MatchOption};
 ghost use Rattle.orca_meaning.specs.Length.{length_of};
 ghost use Rattle.orca_meaning.specs.Operation.{has_mode};
 ghost use Rattle.asm_meaning.specs.Instruction.{operand_bytes, modes_of, kind_of, is_address, is_value, is_asked, modes_of_form, fits_value, is_operand_of_width, or_first, mode_of_number, shift_in, is_distance};
@@ -356,19 +356,29 @@ fn first_offered(mnemonic: Mnemonic, prefix: Prefix, modes: &[Mode]) -> Option<M
     None
 }
 
-/// The first of these modes that is offered and has an address of two bytes.
+/// The mode of a form whose operand is an address of two bytes. A form has at most one.
+#[tactic(auto, unfolding(asm_meaning::specs::Instruction::modes_of, asm_meaning::specs::Instruction::kind_of))]
 #[inline(always)]
-fn first_of_two(mnemonic: Mnemonic, prefix: Prefix, modes: &[Mode]) -> Option<Mode>
-    ensures { result ≡ find two_test (filter (offered_test mnemonic prefix) modes.now) }
+fn two_byte_mode(form: Form) -> Option<Mode>
+    ensures { MatchOption result (filter two_test (modes_of form) ≡ []) (λ mode. filter two_test (modes_of form) ≡ mode ∷ []) }
 {
-    'modes: for mode in modes {
-        if is_address(kind_of(*mode), 2) {
-            if is_offered(mnemonic, prefix, *mode) {
-                return Some(*mode);
-            }
-        }
+    match form {
+        Form::Plain => Some(Mode::Absolute),
+        Form::IndexX => Some(Mode::AbsoluteX),
+        Form::IndexY => Some(Mode::AbsoluteY),
+        Form::Paren => Some(Mode::AbsoluteIndirect),
+        Form::ParenX => Some(Mode::AbsoluteXIndirect),
+        Form::Bracket => Some(Mode::AbsoluteLongIndirect),
+        Form::Nothing
+        | Form::Accumulator
+        | Form::Immediate
+        | Form::IndexS
+        | Form::ParenY
+        | Form::ParenSY
+        | Form::BracketY
+        | Form::Pair
+        | Form::Other => None,
     }
-    None
 }
 
 /// The first mode that a mnemonic offers for a form and a prefix, or BadMode.
@@ -403,12 +413,17 @@ pub(crate) fn mode_of_number(
 }
 
 /// The mode of an operand that is no constant, where the first one that is offered is this.
-#[tactic(auto, unfolding(asm_meaning::specs::Instruction::modes_of_form))]
+#[tactic(auto, using(crate::proofs::Modes::tree_mode_missing))]
 pub(crate) fn mode_of_tree(mnemonic: Mnemonic, form: Form, prefix: Prefix, first: Mode) -> Mode
     ensures { result ≡ or_first first (find two_test (modes_of_form mnemonic form prefix)) }
 {
-    match first_of_two(mnemonic, prefix, modes_of(form)) {
-        Some(mode) => mode,
+    match two_byte_mode(form) {
+        Some(mode) => {
+            if is_offered(mnemonic, prefix, mode) {
+                return mode;
+            }
+            first
+        }
         None => first,
     }
 }

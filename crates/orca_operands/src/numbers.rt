@@ -18,6 +18,7 @@ use crate::causes::{answer_or_fault, gather_answer};
 use crate::names::KnownConstants;
 use crate::piece::{Piece, number_bytes, shift_and_end};
 use asm_meaning::AsmCause;
+use omf_format::EXPR;
 use orca_text::{Formula, LinePart, Operands, after_byte, formula_at, is_too_deep};
 use std::alloc::{AllocError, Global};
 
@@ -81,7 +82,7 @@ fn number_piece(alloc: Global, width: u8, amount: Amount) -> Result<Piece, Alloc
         Amount::Written(text) => {
             let expr = shift_and_end(text, 0)?;
             Ok(Piece::Formula {
-                code: 0xEB,
+                code: EXPR,
                 count: width,
                 n: 0,
                 expr,

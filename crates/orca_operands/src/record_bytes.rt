@@ -4,6 +4,7 @@ ghost use Rattle.std.specs.Prelude.{◌≡◌, ◌∷◌};
 ghost use Rattle.byteorder.specs.Endian.{little_bytes};
 
 use crate::short_bytes::ShortBytes;
+use omf_format::RELEXPR;
 use omf_records::{Rec, put_record};
 use std::alloc::{AllocError, Global};
 
@@ -136,7 +137,7 @@ impl RecordBytes {
     ) -> Result<(), AllocError>
         ensures { OnOk result ((text : List ℕ) → kept_text self.old ≡ text_within_limit text → kept_text self.new ≡ text_within_limit (text ++ records_text (Const (opcode ∷ []) ∷ Formula code count n expr.now ∷ []))) }
     {
-        if code == 0xEE {
+        if code == RELEXPR {
             self.append(&with_distance(opcode, code, count, n))?;
             return self.append(expr);
         }

@@ -10,3 +10,4 @@ pub mod OperandIs
 pub mod Steps
 pub mod Shorts
 pub mod ShortTokens
+pub mod Accumulators

@@ -5,8 +5,8 @@ use Rattle.std.specs.List.{filter}
 use Rattle.orca_meaning.specs.Line.{Line, is_comment, HaveFields}
 use Rattle.orca_meaning.specs.laws.LineLaws.{have_fields}
 use Rattle.orca_text.specs.OwnFields.{HasOwnFields, HaveOwnFields}
-use Rattle.orca_text.specs.View.{line}
-use Rattle.orca_text.specs.declared.line.SourceLine.{SourceLine}
+use Rattle.orca_text.specs.DecodedView.{decoded_line}
+use Rattle.orca_text.specs.declared.decoded_line.DecodedLine.{DecodedLine}
 
 some_line : (a b : Line) → Some a ≡ Some b → a ≡ b
 some_line a b e = cc
@@ -29,16 +29,16 @@ own_filtered test (l ∷ lines) own = by (test l) (own_filtered test lines own.1
     by true rest = (own.0, rest)
     by false rest = rest
 
-map_filtered : (test : Line → Bool) (lines : List SourceLine) → map line (filter (λ (l : SourceLine). test (line l)) lines) ≡ filter test (map line lines)
+map_filtered : (test : Line → Bool) (lines : List DecodedLine) → map decoded_line (filter (λ (l : DecodedLine). test (decoded_line l)) lines) ≡ filter test (map decoded_line lines)
 map_filtered test [] = refl
-map_filtered test (l ∷ lines) = by (filter (λ (x : SourceLine). test (line x)) lines) (filter test (map line lines)) (test (line l)) (map_filtered test lines)
+map_filtered test (l ∷ lines) = by (filter (λ (x : DecodedLine). test (decoded_line x)) lines) (filter test (map decoded_line lines)) (test (decoded_line l)) (map_filtered test lines)
   where
-    by : (left : List SourceLine) (found : List Line) (b : Bool) → map line left ≡ found → map line (cond b (l ∷ left) left) ≡ cond b (line l ∷ found) found
-    by left found true rest = ap (λ (ls : List Line). line l ∷ ls) rest
+    by : (left : List DecodedLine) (found : List Line) (b : Bool) → map decoded_line left ≡ found → map decoded_line (cond b (l ∷ left) left) ≡ cond b (decoded_line l ∷ found) found
+    by left found true rest = ap (λ (ls : List Line). decoded_line l ∷ ls) rest
     by left found false rest = rest
 
-pub dropped : (old new : List SourceLine) → new ≡ filter (λ (l : SourceLine). not (is_comment l.text)) old → map line new ≡ filter (λ (l : Line). not (is_comment l.text)) (map line old)
-dropped old new is = ap (map line) is ∙ map_filtered (λ (l : Line). not (is_comment l.text)) old
+pub dropped : (old new : List DecodedLine) → new ≡ filter (λ (l : DecodedLine). not (is_comment l.line.text)) old → map decoded_line new ≡ filter (λ (l : Line). not (is_comment l.text)) (map decoded_line old)
+dropped old new is = ap (map decoded_line) is ∙ map_filtered (λ (l : Line). not (is_comment l.text)) old
 
-pub own_left : (old new : List SourceLine) → new ≡ filter (λ (l : SourceLine). not (is_comment l.text)) old → HaveOwnFields (map line old) → HaveOwnFields (map line new)
-own_left old new is own = subst HaveOwnFields (sym (dropped old new is)) (own_filtered (λ (l : Line). not (is_comment l.text)) (map line old) own)
+pub own_left : (old new : List DecodedLine) → new ≡ filter (λ (l : DecodedLine). not (is_comment l.line.text)) old → HaveOwnFields (map decoded_line old) → HaveOwnFields (map decoded_line new)
+own_left old new is own = subst HaveOwnFields (sym (dropped old new is)) (own_filtered (λ (l : Line). not (is_comment l.text)) (map decoded_line old) own)

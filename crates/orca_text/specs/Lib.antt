@@ -11,3 +11,5 @@ pub mod OperandView
 pub mod Next
 pub mod TokenView
 pub mod Short
+pub mod Decoding
+pub mod DecodedView

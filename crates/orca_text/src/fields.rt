@@ -6,10 +6,11 @@ ghost use Rattle.orca_meaning.specs.Characters.{is_blank};
 ghost use Rattle.orca_meaning.specs.Quotes.{outside_from, quote_following};
 ghost use Rattle.orca_meaning.specs.Line.{is_comment, three_fields, operand_span, fields_of, part, LiesIn, HaveFields};
 ghost use Rattle.orca_meaning.specs.laws.Steps.{is_ink, statement_fields};
+ghost use Rattle.orca_text.specs.Decoding.{IsDecoded};
 ghost use Rattle.orca_text.specs.View.{fields};
 
 use crate::line_part::LinePart;
-use crate::operation::operation_use;
+use crate::operation::{DecodedOperation, decode_operation};
 use orca_meaning::{OperandUse, Span};
 
 /// The places of a line's fields.
@@ -237,34 +238,38 @@ fn operand_span(text: &[u8], third: Span, operand_use: OperandUse) -> Span
     }
 }
 
-/// The fields of a line that isn't a comment.
+/// The fields of a line that isn't a comment, and what its operation is.
 #[inline(always)]
-fn statement_fields(text: LinePart<'_>) -> LineFields
-    ensures value { fields result ≡ statement_fields text.entry.bytes.now (three_fields text.entry.bytes.now) }
-    ensures within { HaveFields text.entry.bytes.now (fields result) }
+fn statement_fields(text: LinePart<'_>) -> (LineFields, DecodedOperation)
+    ensures value { fields result.0 ≡ statement_fields text.entry.bytes.now (three_fields text.entry.bytes.now) }
+    ensures within { HaveFields text.entry.bytes.now (fields result.0) }
+    ensures operation { IsDecoded (part text.entry.bytes.now result.0.operation) result.1 }
 {
     let three = three_fields(text);
-    let operand_use = operation_use(part(text, three.operation).bytes);
-    LineFields {
+    let operation = decode_operation(part(text, three.operation).bytes);
+    let fields = LineFields {
         label: three.label,
         operation: three.operation,
-        operand: operand_span(text.bytes, three.operand, operand_use),
-    }
+        operand: operand_span(text.bytes, three.operand, operation.operand_use),
+    };
+    (fields, operation)
 }
 
-/// The fields of a line. A comment has none.
+/// The fields of a line, and what its operation is. A comment has none.
 #[tactic(auto, unfolding(orca_meaning::specs::Line::fields_of))]
-pub(crate) fn fields_of(text: LinePart<'_>) -> LineFields
-    ensures value { fields result ≡ fields_of text.entry.bytes.now }
-    ensures within { HaveFields text.entry.bytes.now (fields result) }
+pub(crate) fn fields_of(text: LinePart<'_>) -> (LineFields, DecodedOperation)
+    ensures value { fields result.0 ≡ fields_of text.entry.bytes.now }
+    ensures within { HaveFields text.entry.bytes.now (fields result.0) }
+    ensures operation { IsDecoded (part text.entry.bytes.now result.0.operation) result.1 }
 {
     if is_comment(text.bytes) {
         let nothing = Span { from: 0, to: 0 };
-        return LineFields {
+        let fields = LineFields {
             label: nothing,
             operation: nothing,
             operand: nothing,
         };
+        return (fields, decode_operation(part(text, nothing).bytes));
     }
     statement_fields(text)
 }

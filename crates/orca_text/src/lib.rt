@@ -1,6 +1,7 @@
 //! Lines and operands of assembly source (ORCA/M reference manual; WDC 65C816 data sheet, addressing modes).
 #![tactic(auto)]
 
+mod decoded_line;
 mod fields;
 mod forms;
 mod formula;
@@ -16,6 +17,7 @@ mod short;
 mod tokens;
 mod waiting;
 
+pub use decoded_line::DecodedLine;
 pub use fields::{
     LineFields, is_comment, label_in, operand_after, part, quote_following, three_fields,
 };
@@ -24,9 +26,9 @@ pub use formula_term::{Formula, FormulaTerm};
 pub use line::SourceLine;
 pub use line_part::LinePart;
 pub use lines::{Lines, read_lines};
-pub use operand::{Operand, is_too_deep, read_operand};
+pub use operand::{Operand, is_too_deep, read_decoded_operand, read_operand};
 pub use operand_tokens::{after_byte, is_name_start, name_at, name_len, symbol_at, to_upper_case};
-pub use operation::{is_spelled, mnemonic_of};
+pub use operation::{DecodedOperation, is_spelled};
 pub use orca_meaning::{Form, Mnemonic, OperandUse, Operands, Prefix, Span, TextCause, TextFault};
 pub use short::{ShortFormula, short_formula};
 pub use tokens::{digit, digits_at};

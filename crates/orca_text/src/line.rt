@@ -1,9 +1,9 @@
 //! A line of a source.
 
 ghost use Rattle.std.specs.Prelude.{◌≡◌, IfOk};
-ghost use Rattle.orca_meaning.specs.Line.{line_of, part, LiesIn};
+ghost use Rattle.orca_meaning.specs.Line.{part, LiesIn};
 
-use crate::fields::{self, fields_of};
+use crate::fields::{self, LineFields};
 use crate::line_part::LinePart;
 use omf_base::{Name, NameFault};
 use orca_meaning::Span;
@@ -28,26 +28,26 @@ pub struct SourceLine {
 }
 
 impl SourceLine {
-    ghost use Rattle.orca_text.specs.View.{line};
+    ghost use Rattle.orca_text.specs.View.{line, fields};
 
-    /// The line of these bytes.
-    pub fn of(
+    /// The line of these bytes with these fields.
+    pub(crate) fn with_fields(
         alloc: Global,
         file: u32,
         number: u32,
         text: LinePart<'_>,
+        places: LineFields,
     ) -> Result<SourceLine, AllocError>
-        ensures { IfOk result (λ l. line l ≡ line_of file number text.entry.bytes.now) }
+        ensures { IfOk result (λ l. line l ≡ record { file = file; number = number; text = text.entry.bytes.now; fields = fields places }) }
     {
-        let fields = fields_of(text);
         match Name::of(alloc, text.bytes) {
             Ok(text) => Ok(SourceLine {
                 file,
                 line: number,
                 text,
-                label: fields.label,
-                operation: fields.operation,
-                operand: fields.operand,
+                label: places.label,
+                operation: places.operation,
+                operand: places.operand,
             }),
             Err(NameFault::TooLong) => unreachable!(),
             Err(NameFault::Memory) => Err(AllocError),

@@ -4,10 +4,12 @@ ghost use Rattle.std.specs.Prelude.{◌≡◌, ◌+◌, ◌^◌, ◌≤◌, ◌<
 ghost use Rattle.std.specs.List.{filter};
 ghost use Rattle.omf_format.specs.Lines.{lines_of};
 ghost use Rattle.orca_meaning.specs.Line.{line_of, line_fault, numbered_lines, first_line_fault, fields_of, is_comment, HaveFields};
+ghost use Rattle.orca_text.specs.DecodedView.{decoded_line};
 ghost use Rattle.orca_text.specs.View.{line};
 ghost use Rattle.orca_text.specs.OwnFields.{HaveOwnFields};
 ghost use Rattle.orca_text.specs.Refusals.{IsRefused};
 
+use crate::decoded_line::DecodedLine;
 use crate::fields::is_comment;
 use crate::line::SourceLine;
 use crate::line_part::LinePart;
@@ -25,20 +27,20 @@ const MOST_LINES: u32 = 65536;
 /// Lines in order. Contracts see the list of them. Their fields are those of their bytes.
 #[derive(Drop)]
 pub struct Lines {
-    lines: Vec<SourceLine>,
+    lines: Vec<DecodedLine>,
 }
 
 impl Model for Lines {
     ghost use Rattle.std.specs.Prelude.{◌<◌, ◌^◌, List, map, length};
     ghost use Rattle.orca_meaning.specs.Line as meaning;
-    ghost use Rattle.orca_text.specs.View.{line};
+    ghost use Rattle.orca_text.specs.DecodedView.{decoded_line};
     ghost use Rattle.orca_text.specs.OwnFields.{HaveOwnFields};
 
     ghost Value = { List meaning.Line };
 
-    ghost view = { λ lines. map line lines.lines.items };
+    ghost view = { λ lines. map decoded_line lines.lines.items };
 
-    ghost invariant = { λ lines. HaveOwnFields (map line lines.lines.items) × (length lines.lines.items < 2 ^ 32) };
+    ghost invariant = { λ lines. HaveOwnFields (map decoded_line lines.lines.items) × (length lines.lines.items < 2 ^ 32) };
 }
 
 impl Lines {
@@ -63,7 +65,7 @@ impl Lines {
         ensures ok { OnOk result (self.new ≡ self.old ++ line_of file number text.entry.bytes.now ∷ []) }
         ensures err { OnErr result (self.new ≡ self.old) }
     {
-        let line = SourceLine::of(alloc, file, number, text)?;
+        let line = DecodedLine::of(alloc, file, number, text)?;
         self.lines.push(line)?;
         Ok(())
     }
@@ -75,7 +77,7 @@ impl Lines {
         ensures ok { OnOk result (self.new ≡ self.old ++ line of.now ∷ []) }
         ensures err { OnErr result (self.new ≡ self.old) }
     {
-        let line = of.try_copy(alloc)?;
+        let line = DecodedLine::of_line(alloc, of)?;
         self.lines.push(line)?;
         Ok(())
     }
@@ -84,7 +86,7 @@ impl Lines {
     pub fn drop_comments(&mut self)
         ensures { self.new ≡ filter (λ l. not (is_comment l.text)) self.old }
     {
-        self.lines.retain(|of| !is_comment(of.text.bytes()));
+        self.lines.retain(|of| !is_comment(of.line.text.bytes()));
     }
 
     /// How many lines there are.
@@ -100,14 +102,26 @@ impl Lines {
         ensures fields { IfSome result (λ found. HaveFields found.now.text (line found.now).fields) }
         ensures own { IfSome result (λ found. (line found.now).fields ≡ fields_of found.now.text) }
     {
+        match self.get_decoded(place) {
+            Some(found) => Some(&found.line),
+            None => None,
+        }
+    }
+
+    /// The line at a place, from 0, with what its operation is.
+    pub fn get_decoded(&self, place: u32) -> Option<&DecodedLine>
+        ensures line { MatchOption result (length self.now ≤ place) (λ found. slice_get self.now place ≡ Some (decoded_line found.now)) }
+        ensures fields { IfSome result (λ found. HaveFields found.now.line.text (decoded_line found.now).fields) }
+        ensures own { IfSome result (λ found. (decoded_line found.now).fields ≡ fields_of found.now.line.text) }
+    {
         match self.at(place) {
             Some(found) => Some(found),
             None => None,
         }
     }
 
-    fn at(&self, place: u32) -> Option<&SourceLine>
-        ensures line { MatchOption result (length self.now ≤ place) (λ found. slice_get self.now place ≡ Some (line found.now)) }
+    fn at(&self, place: u32) -> Option<&DecodedLine>
+        ensures line { MatchOption result (length self.now ≤ place) (λ found. slice_get self.now place ≡ Some (decoded_line found.now)) }
         ensures own { HaveOwnFields self.now }
     {
         self.lines.get(place as usize)

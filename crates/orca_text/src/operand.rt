@@ -1,23 +1,24 @@
 //! The operand of a line (WDC 65C816 data sheet, addressing modes; ORCA/M reference manual, "The operand field").
 
-ghost use Rattle.std.specs.Prelude.{◌≡◌, ◌≢◌, ◌∷◌, ◌+◌, ◌-◌, ◌<◌, ◌≤◌, ◌||◌, max, [], ℕ, length, map, true, false, Some, None, IfOk, IfErr, IfSome, IfNone, IsTrue, ◌↔◌};
+ghost use Rattle.std.specs.Prelude.{◌≡◌, ◌≢◌, ◌∷◌, ◌+◌, ◌-◌, ◌<◌, ◌≤◌, ◌||◌, max, [], ℕ, length, map, true, false, Some, None, IfOk, IfErr, IfSome, IfNone, IsTrue, ◌↔◌, ◌&&◌, bytes_eq, codes};
 ghost use Rattle.omf_format.specs.Expression.{operand_count};
 ghost use Rattle.orca_meaning.specs.Characters.{folded};
-ghost use Rattle.orca_meaning.specs.Line.{LiesIn};
+ghost use Rattle.orca_meaning.specs.Line.{LiesIn, part};
 ghost use Rattle.orca_meaning.specs.Operand.{is_accumulator, opening, prefix, body, IsRefusedFor};
 ghost use Rattle.orca_meaning.specs.laws.Steps.{means_accumulator, values_here};
-ghost use Rattle.orca_meaning.specs.Operation.{mnemonic_of};
+ghost use Rattle.orca_text.specs.Decoding.{IsDecoded};
 ghost use Rattle.orca_text.specs.OperandView.{IsRead, IsOperandFault, line_mnemonic, line_operand, line_for, IsRefusedHere, IsSecond, HasNoSecond};
 ghost use Rattle.orca_text.specs.Peak.{peak};
 ghost use Rattle.orca_text.specs.View.{term};
 
+use crate::decoded_line::DecodedLine;
 use crate::forms::{after_opening, after_prefix, form_after, opening_of, prefix_of};
 use crate::formula::{FormulaAt, formula_at};
 use crate::formula_term::{Formula, FormulaTerm};
 use crate::line::SourceLine;
 use crate::line_part::LinePart;
 use crate::operand_tokens::after_byte;
-use crate::operation::{is_spelled, row_of};
+use crate::operation::{DecodedOperation, decode_operation, is_spelled};
 use orca_meaning::{Form, Mnemonic, Opening, OperandUse, Operands, Prefix, TextCause, TextFault};
 use std::alloc::{AllocError, Global};
 
@@ -261,17 +262,34 @@ fn means_accumulator(operand_use: OperandUse) -> bool
     }
 }
 
-/// The operand in a line with this operation.
-fn operand_in(alloc: Global, operation: &[u8], text: LinePart<'_>) -> Result<Operand, TextCause>
-    ensures ok { IfOk result (IsRead (mnemonic_of operation.now) text.entry.bytes.now) }
-    ensures refused { IfErr result (λ cause. IsRefusedFor cause (mnemonic_of operation.now) text.entry.bytes.now) }
+/// Whether the accumulator is the operand of an operation that uses it so.
+fn is_accumulator(operand_use: OperandUse, text: &[u8]) -> bool
+    ensures { result ≡ (means_accumulator operand_use && bytes_eq (folded text.now) (codes "A")) }
 {
-    match row_of(operation) {
-        Some((mnemonic, operand_use)) => {
-            let accumulator = means_accumulator(operand_use) && is_spelled(text.bytes, b"A");
-            operand_of(alloc, Some(mnemonic), accumulator, text)
-        }
-        None => operand_of(alloc, None, false, text),
+    means_accumulator(operand_use) && is_spelled(text, b"A")
+}
+
+/// The operand of a line whose operation is this.
+fn operand_with(
+    alloc: Global,
+    line: &SourceLine,
+    operation: DecodedOperation,
+) -> Result<Operand, TextFault>
+    requires operation { LiesIn line.now.text line.now.operation }
+    requires operand { LiesIn line.now.text line.now.operand }
+    requires decoded { IsDecoded (part line.now.text line.now.operation) operation }
+    ensures operand { IfOk result (IsRead (line_mnemonic line.now) (line_operand line.now)) }
+    ensures refused { IfErr result (IsOperandFault line.now) }
+{
+    let text = line.part(line.operand);
+    let accumulator = is_accumulator(operation.operand_use, text.bytes);
+    match operand_of(alloc, operation.mnemonic, accumulator, text) {
+        Ok(operand) => Ok(operand),
+        Err(cause) => Err(TextFault {
+            cause,
+            file: line.file,
+            line: line_for(cause, line.line),
+        }),
     }
 }
 
@@ -284,18 +302,18 @@ pub fn read_operand(alloc: Global, line: &SourceLine) -> Result<Operand, TextFau
     ensures operand { IfOk result (IsRead (line_mnemonic line.now) (line_operand line.now)) }
     ensures refused { IfErr result (IsOperandFault line.now) }
 {
-    match operand_in(
-        alloc,
-        line.part(line.operation).bytes,
-        line.part(line.operand),
-    ) {
-        Ok(operand) => Ok(operand),
-        Err(cause) => Err(TextFault {
-            cause,
-            file: line.file,
-            line: line_for(cause, line.line),
-        }),
-    }
+    let operation = decode_operation(line.part(line.operation).bytes);
+    operand_with(alloc, line, operation)
+}
+
+/// The operand of a line as `read_operand` reads it, but the operation isn't looked up again.
+pub fn read_decoded_operand(alloc: Global, of: &DecodedLine) -> Result<Operand, TextFault>
+    requires operation { LiesIn of.now.line.text of.now.line.operation }
+    requires operand { LiesIn of.now.line.text of.now.line.operand }
+    ensures operand { IfOk result (IsRead (line_mnemonic of.now.line) (line_operand of.now.line)) }
+    ensures refused { IfErr result (IsOperandFault of.now.line) }
+{
+    operand_with(alloc, &of.line, of.operation)
 }
 
 /// The line that a fault for this cause names.

@@ -4,12 +4,22 @@ ghost use Rattle.std.specs.Prelude.{◌≡◌, ◌≢◌, true, ◌+◌, ◌*◌
 ghost use Rattle.std.specs.Char.{to_ascii_uppercase};
 ghost use Rattle.std.specs.List.{list_any};
 ghost use Rattle.orca_meaning.specs.Characters.{folded};
-ghost use Rattle.orca_meaning.specs.Operation.{mnemonics, mnemonic_of, use_of, operation_use, without_operand};
+ghost use Rattle.orca_meaning.specs.Operation.{mnemonics, mnemonic_of, use_of, use_of_other, without_operand};
+ghost use Rattle.orca_text.specs.Decoding.{IsDecoded};
 ghost use Rattle.orca_text.specs.Spelling.{is_three, key_of};
 
 use orca_meaning::Mnemonic::*;
 use orca_meaning::OperandUse::*;
 use orca_meaning::{Mnemonic, OperandUse};
+
+/// What an operation is.
+#[derive(Clone, Copy)]
+pub struct DecodedOperation {
+    /// The mnemonic that it is, if it is one.
+    pub mnemonic: Option<Mnemonic>,
+    /// What it does with its operand.
+    pub operand_use: OperandUse,
+}
 
 /// The spellings of the mnemonics, each as the number that its three letters are, the first highest.
 static SPELLINGS: [u32; 94] = [
@@ -245,7 +255,7 @@ fn capital(byte: u8) -> u32
 
 /// The mnemonic that an operation is, and what it does with its operand.
 #[tactic(auto, using(crate::proofs::Lookup::row_other))]
-pub(crate) fn row_of(operation: &[u8]) -> Option<(Mnemonic, OperandUse)>
+fn row_of(operation: &[u8]) -> Option<(Mnemonic, OperandUse)>
     ensures { MatchOption result (mnemonic_of operation.now ≡ None) (λ row. (mnemonic_of operation.now ≡ Some row.0) × (row.1 ≡ use_of row.0)) }
 {
     let Some(key) = key(operation) else {
@@ -254,16 +264,6 @@ pub(crate) fn row_of(operation: &[u8]) -> Option<(Mnemonic, OperandUse)>
     match spellings().binary_search(&key) {
         Ok(place) => Some(rows()[place]),
         Err(_) => None,
-    }
-}
-
-/// The mnemonic that an operation is, in upper or lower case. BLT and BGE are read as BCC and BCS.
-pub fn mnemonic_of(operation: &[u8]) -> Option<Mnemonic>
-    ensures { result ≡ mnemonic_of operation.now }
-{
-    match row_of(operation) {
-        Some((mnemonic, _)) => Some(mnemonic),
-        None => None,
     }
 }
 
@@ -291,18 +291,29 @@ fn is_without_operand(operation: &[u8]) -> bool
         || is_spelled(operation, b"MEXIT")
 }
 
-/// What an operation does with its operand.
+/// What an operation that is no mnemonic does with its operand.
+fn other_use(operation: &[u8]) -> OperandUse
+    ensures { result ≡ use_of_other (list_any (bytes_eq (folded operation.now)) without_operand) }
+{
+    if is_without_operand(operation) {
+        return OperandUse::Never;
+    }
+    OperandUse::Always
+}
+
+/// What an operation is, in upper or lower case. BLT and BGE are read as BCC and BCS.
 #[tactic(auto, unfolding(orca_meaning::specs::Operation::operation_use))]
-pub(crate) fn operation_use(operation: &[u8]) -> OperandUse
-    ensures { result ≡ operation_use operation.now }
+pub(crate) fn decode_operation(operation: &[u8]) -> DecodedOperation
+    ensures { IsDecoded operation.now result }
 {
     match row_of(operation) {
-        Some((_, operand_use)) => operand_use,
-        None => {
-            if is_without_operand(operation) {
-                return OperandUse::Never;
-            }
-            OperandUse::Always
-        }
+        Some((mnemonic, operand_use)) => DecodedOperation {
+            mnemonic: Some(mnemonic),
+            operand_use,
+        },
+        None => DecodedOperation {
+            mnemonic: None,
+            operand_use: other_use(operation),
+        },
     }
 }
