@@ -219,7 +219,7 @@ IsDone state line (Direct directives.Org) label text answer =
 IsDone state line (Direct directives.Kind) label text answer =
     (found : Option Tree) × IsFormula text found
     × (answer ≡ (pair_or_earlier_fault label (number_in state found >>= listed_kind)
-      >>= λ (name, n). Ok (in_segment (λ s. with_kind n (with_local_record name DIRECTIVE_LABEL [] s)) state)))
+    >>= λ (name, n). Ok (in_segment (λ s. with_kind n (with_local_record name DIRECTIVE_LABEL [] s)) state)))
 IsDone state line (Direct (directives.Turn switch)) label text answer =
     answer ≡ (pair_or_earlier_fault label (switch_of text) >>= λ (name, on). Ok (with_switch_set switch on (in_segment (with_local_record name DIRECTIVE_LABEL []) state)))
 IsDone state line (Direct directives.Nothing) label text answer = answer ≡ marking state DIRECTIVE_LABEL label (Ok [])
@@ -234,7 +234,7 @@ IsStep state line answer = elim (operation_of (part line.text line.fields.operat
   | Some operation ↦ elim (is_misplaced state.segment operation (part line.text line.fields.label) (part line.text line.fields.operand)) [
     | true ↦ answer ≡ Err OutsideSegment
     | false ↦
-      (left : Answer State) × IsDone state line operation (label_of state operation (part line.text line.fields.label)) (part line.text line.fields.operand) left
-      × (answer ≡ (left >>= within_length))
+        (left : Answer State) × IsDone state line operation (label_of state operation (part line.text line.fields.label)) (part line.text line.fields.operand) left
+        × (answer ≡ (left >>= within_length))
   ]
 ]

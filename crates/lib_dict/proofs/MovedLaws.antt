@@ -68,7 +68,7 @@ ends_in bytes none =
     record { long = sound.long; names = omega (arith, sound.names, sound.data', sound.whole) }
 
 fields_more : (xs ys : List ℕ) → Ends xs → fields_of (xs ++ ys) ≡ fields_of xs
-unfolding fields_of version_of  kind_of
+unfolding fields_of version_of kind_of
 fields_more xs ys e =
     let long = e.long in
     let d = number_at 2 0x28 xs in
@@ -127,7 +127,7 @@ checks_more xs ys e each =
 
 -- a sound header is sound whatever follows, with the same fields
 pub passes_more : (xs ys : List ℕ) → header_fault xs ≡ None → (header_fault (xs ++ ys) ≡ None) × (fields_of (xs ++ ys) ≡ fields_of xs)
-unfolding header_fault 
+unfolding header_fault
 passes_more xs ys none =
     let e = ends_in xs none in
     let same = fields_more xs ys e in

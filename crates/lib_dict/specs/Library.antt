@@ -116,7 +116,7 @@ dictionary_fields n = record {
 unfoldable pub dictionary_text : List ℕ → List ℕ → List ℕ → List ℕ
 dictionary_text first second third =
     let body = spelling written_layout (LongConst first) ++ (spelling written_layout (LongConst second)
-      ++ (spelling written_layout (LongConst third) ++ spelling written_layout End)) in
+    ++ (spelling written_layout (LongConst third) ++ spelling written_layout End)) in
     header_bytes (dictionary_fields (length first + length second + length third)) (length body) ++ body
 
 -- how many bytes the dictionary of these files has: its header of $37 bytes and its name of 10, the codes and the lengths of three records,

@@ -34,7 +34,7 @@ body_whole own content patches exports = sym (flat_map-append (spelling written_
 
 -- the body of a load segment is what its records spell, and END
 body_is : (f : HeaderFields) (content : List ℕ) (patches : List Patch) (exports : List Record) (body : List ℕ) → body ≡ body_text f.seg_num content patches ++ spelled_records exports → body ++ 0 ∷ [] ≡ image_body (image f content patches exports)
-unfolding image_body  spelling
+unfolding image_body spelling
 body_is f content patches exports body b = ap (λ (l : List ℕ). l ++ 0 ∷ []) (b ∙ body_whole f.seg_num content patches exports)
 
 pub text_is : (f : HeaderFields) (content : List ℕ) (patches : List Patch) (exports : List Record) (front body : List ℕ) → body ≡ body_text f.seg_num content patches ++ spelled_records exports

@@ -70,7 +70,7 @@ pathnames_writable number size = record { version = refl; banks = omega arith; l
 
 -- the body is one LCONST, and END
 whole_body : (f : HeaderFields) (bytes : List ℕ) → 1 ≤ length bytes → spelling written_layout (LongConst bytes) ++ 0 ∷ [] ≡ image_body (whole_image f bytes)
-unfolding image_body  spelling
+unfolding image_body spelling
 whole_body f [] some = absurd (omega (arith, some))
 whole_body f (b ∷ bytes) some = ap (λ (l : List ℕ). l ++ 0 ∷ []) (sym (append-nil (spelling written_layout (LongConst (b ∷ bytes)))))
 

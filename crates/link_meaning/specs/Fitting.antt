@@ -42,11 +42,11 @@ place_fit f code count n segment offset shift =
     if code == EXPR || code == LEXPR then Some (Place segment offset shift)
     else if code == BEXPR then (if near && not (f.bank_size == 0) then Some (Place segment offset shift) else None)
     else if code == RELEXPR then (
-        if near then (
-            if nat_le (f.place + n) (offset + 256 ^ count / 2) && nat_lt offset (f.place + n + 256 ^ count / 2)
-            then Some (Number ((offset + 256 ^ count - (f.place + n)) % 256 ^ count))
-            else None)
-        else None)
+    if near then (
+    if nat_le (f.place + n) (offset + 256 ^ count / 2) && nat_lt offset (f.place + n + 256 ^ count / 2)
+    then Some (Number ((offset + 256 ^ count - (f.place + n)) % 256 ^ count))
+    else None)
+    else None)
     else None
 
 -- ---- dynamic segments
@@ -92,7 +92,7 @@ fit_value headers f targets before code count n (Fixed k) = ok_or (
 fit_value headers f targets before code count n (At file segment offset shift) =
     if not (file == 1) || (not (segment == f.own) && is_dynamic_load headers segment)
     then call_fit headers f.setting targets (code == LEXPR && count == 3 && is_unshifted shift && ends_in_jsl before)
-        (record { file = file; segment = segment; offset = offset })
+    (record { file = file; segment = segment; offset = offset })
     else ok_or (place_fit f code count n segment offset shift) DoesNotFit
 
 -- ---- cells

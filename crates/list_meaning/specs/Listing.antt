@@ -114,8 +114,8 @@ said_instruction w opcode bytes =
     let found = instruction_of_opcode opcode in
     if length bytes == after_opcode w opcode
     then
-      elim (operand_by (kind_of found.1) bytes) [ None ↦ Bytes (opcode ∷ bytes) ∷ [] | Some wanted ↦ Instructs found.0 found.1 wanted ∷ [] ]
-      ++ turns_between w (widths_following found.0 bytes w)
+    elim (operand_by (kind_of found.1) bytes) [ None ↦ Bytes (opcode ∷ bytes) ∷ [] | Some wanted ↦ Instructs found.0 found.1 wanted ∷ [] ]
+    ++ turns_between w (widths_following found.0 bytes w)
     else Bytes (opcode ∷ bytes) ∷ []
 
 -- the widths after it
@@ -255,8 +255,8 @@ unfoldable pub formula_listable : List (List ℕ) → PendingRun → ℕ → ℕ
 formula_listable equates b code count n tree =
     list_all (term_listable equates) (terms_of tree)
     && (if code == EXPR
-      then (if is_some (weak_of tree) then count == 2 else list_all term_may_stand (terms_of tree) && list_any is_open (terms_of tree))
-      else is_some (simple_of tree) && elim (split_last b.run) [ None ↦ false | Some found ↦ is_record code count n (record_of_opcode both_long found.1) ])
+    then (if is_some (weak_of tree) then count == 2 else list_all term_may_stand (terms_of tree) && list_any is_open (terms_of tree))
+    else is_some (simple_of tree) && elim (split_last b.run) [ None ↦ false | Some found ↦ is_record code count n (record_of_opcode both_long found.1) ])
 
 -- the line fits in 255 bytes
 abbrev pub is_short : ListedStatement → Bool
@@ -292,8 +292,8 @@ given_by f equates b (Equate global name size form private expr) =
     if not global || private == 0 then option_and_then (λ tree. equate_given b global name (number_of tree)) (tree_in f.lab_len expr) else None
 given_by f equates b (Formula code count n expr) =
     option_and_then
-      (λ tree. if_short (formula_listable equates b code count n tree) (formula_given b code count n tree (split_last b.run) (simple_of tree)))
-      (tree_in f.lab_len expr)
+    (λ tree. if_short (formula_listable equates b code count n tree) (formula_given b code count n tree (split_last b.run) (simple_of tree)))
+    (tree_in f.lab_len expr)
 given_by f equates b _ = None
 
 -- ---- a segment
@@ -315,8 +315,8 @@ unfoldable pub listing_of : Segment → Result (List ListedStatement) ℕ
 listing_of s =
     if has_listable_header s && list_all is_short (front_of s.fields)
     then
-      (said_from s.fields (flat_map (λ found. equate_name found.1) s.records) (record { widths = both_long; run = []; names = s.fields.name ∷ [] }) s.records
-      >>= λ more. Ok (front_of s.fields ++ more))
+    (said_from s.fields (flat_map (λ found. equate_name found.1) s.records) (record { widths = both_long; run = []; names = s.fields.name ∷ [] }) s.records
+    >>= λ more. Ok (front_of s.fields ++ more))
     else Err s.start
 
 -- ---- a file

@@ -171,9 +171,9 @@ unfoldable pub header_bytes : HeaderFields → ℕ → List ℕ
 header_bytes f body_length =
     let h = written_fields f body_length in
     laid_out (
-      (4, h.byte_count) ∷ (4, h.res_spc) ∷ (4, h.length) ∷ (1, 0) ∷ (1, h.lab_len) ∷ (1, 4) ∷ (1, h.version)
-      ∷ (4, h.bank_size) ∷ (2, h.kind) ∷ (2, 0) ∷ (4, h.org) ∷ (4, h.align) ∷ (1, 0) ∷ (1, 0)
-      ∷ (2, h.seg_num) ∷ (4, h.entry) ∷ (2, h.disp_name) ∷ (2, h.disp_data) ∷ [])
+    (4, h.byte_count) ∷ (4, h.res_spc) ∷ (4, h.length) ∷ (1, 0) ∷ (1, h.lab_len) ∷ (1, 4) ∷ (1, h.version)
+    ∷ (4, h.bank_size) ∷ (2, h.kind) ∷ (2, 0) ∷ (4, h.org) ∷ (4, h.align) ∷ (1, 0) ∷ (1, 0)
+    ∷ (2, h.seg_num) ∷ (4, h.entry) ∷ (2, h.disp_name) ∷ (2, h.disp_data) ∷ [])
     ++ f.load_name ++ length f.name ∷ f.name
 
 -- which headers may be written: those of version 2 for which the checks of BANKSIZE, KIND and RESSPC don't hold

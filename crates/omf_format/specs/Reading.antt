@@ -43,8 +43,11 @@ rows l =
     (ALIGN, taken_as Align (number_field 4))
     ∷ (ORG, taken_as Org (field_that_passes (λ n. nat_lt n (2 ^ 31)) Unread (number_field 4)))
     ∷ (RELOC, taken_as (λ x. Reloc x.0.0 x.0.1 x.1.0 x.1.1) (patch_field ⊗ number_field 4 ⊗ number_field 4))
-    ∷ (INTERSEG, taken_as (λ x. InterSeg x.0.0 x.0.1 x.1.0 x.1.1.0 x.1.1.1.0 x.1.1.1.1)
-    (patch_field ⊗ number_field 4 ⊗ number_field 2 ⊗ number_field 2 ⊗ number_field 4))
+    ∷ (
+      INTERSEG,
+      taken_as (λ x. InterSeg x.0.0 x.0.1 x.1.0 x.1.1.0 x.1.1.1.0 x.1.1.1.1)
+          (patch_field ⊗ number_field 4 ⊗ number_field 2 ⊗ number_field 2 ⊗ number_field 4),
+    )
     ∷ (USING, taken_as Using (name_field l.lab_len))
     ∷ (STRONG, taken_as Strong (name_field l.lab_len))
     ∷ (GLOBAL, label_field l true)

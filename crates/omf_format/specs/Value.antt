@@ -45,23 +45,23 @@ number_of_one code a =
 unfoldable pub number_of_two : ℕ → ℕ → ℕ → ℕ
 number_of_two code a b =
     if nat_le code 0x07 then (
-        if code == 0x01 then wrapped_to_32_bits (a + b)
-        else if code == 0x02 then wrapped_to_32_bits (a + (2 ^ 32 - b))
-        else if code == 0x03 then wrapped_to_32_bits (a * b)
-        else if code == 0x04 then cast_unsigned w32 (int_div (signed a) (signed b))
-        else if code == 0x05 then cast_unsigned w32 (int_rem (signed a) (signed b))
-        else shifted_bits a (signed b))
+    if code == 0x01 then wrapped_to_32_bits (a + b)
+    else if code == 0x02 then wrapped_to_32_bits (a + (2 ^ 32 - b))
+    else if code == 0x03 then wrapped_to_32_bits (a * b)
+    else if code == 0x04 then cast_unsigned w32 (int_div (signed a) (signed b))
+    else if code == 0x05 then cast_unsigned w32 (int_rem (signed a) (signed b))
+    else shifted_bits a (signed b))
     else if nat_le code 0x0A then (
-        if code == 0x08 then truth (is_true a && is_true b)
-        else if code == 0x09 then truth (is_true a || is_true b)
-        else truth ((is_true a && not (is_true b)) || (is_true b && not (is_true a))))
+    if code == 0x08 then truth (is_true a && is_true b)
+    else if code == 0x09 then truth (is_true a || is_true b)
+    else truth ((is_true a && not (is_true b)) || (is_true b && not (is_true a))))
     else if nat_le code 0x11 then (
-        if code == 0x0C then truth (int_le (signed a) (signed b))
-        else if code == 0x0D then truth (int_le (signed b) (signed a))
-        else if code == 0x0E then truth (not (a == b))
-        else if code == 0x0F then truth (int_lt (signed a) (signed b))
-        else if code == 0x10 then truth (int_lt (signed b) (signed a))
-        else truth (a == b))
+    if code == 0x0C then truth (int_le (signed a) (signed b))
+    else if code == 0x0D then truth (int_le (signed b) (signed a))
+    else if code == 0x0E then truth (not (a == b))
+    else if code == 0x0F then truth (int_lt (signed a) (signed b))
+    else if code == 0x10 then truth (int_lt (signed b) (signed a))
+    else truth (a == b))
     else if code == 0x12 then bit_and a b
     else if code == 0x13 then bit_or a b
     else bit_xor a b

@@ -41,10 +41,10 @@ count_and_seed _ = None
 abbrev pub output_and_runtimes : List (List ℕ) → Option (List ℕ × List (List ℕ) × List (List ℕ))
 output_and_runtimes (output ∷ count ∷ inputs) =
     option_and_then (λ n.
-        let last = drop (length inputs - n) inputs in
-        if is_path output && are_paths 2 255 inputs then option_map (λ last. (output, inputs, last)) (
-            if nat_lt n (length inputs) && list_all (λ path. list_all is_path_byte path) last then Some last else None)
-        else None)
+    let last = drop (length inputs - n) inputs in
+    if is_path output && are_paths 2 255 inputs then option_map (λ last. (output, inputs, last)) (
+    if nat_lt n (length inputs) && list_all (λ path. list_all is_path_byte path) last then Some last else None)
+    else None)
     (if nat_le (length count) 2 then number_between 1 16 count else None)
 output_and_runtimes _ = None
 

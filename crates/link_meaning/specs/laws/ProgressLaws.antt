@@ -168,7 +168,7 @@ none_first (x ∷ xs) ys e = let clash : x ∷ xs ≡ [] = e in absurd cc
 -- an ordinary use that finds nothing has no row whose member is in the list
 pub fresh_name : (offers : List Offer) (list : List Member) (place : ℕ) (u m : Member) (name : List ℕ) (at : ℕ) → AreSound offers
     → finds list place u name ≡ [] → row_for offers u (record { want = One; name = name; at = at }) ≡ Some m → IsIn list m → ⊥
-unfolding finds  with_this_name entries
+unfolding finds with_this_name entries
 fresh_name offers list place u m name at sound none row there =
     let r = row_is offers u (record { want = One; name = name; at = at }) m row in
     let d = sound r.offer r.among in

@@ -43,7 +43,7 @@ in_decided (s ∷ steps) all f is = settle (in_either (filter (is_seen_by_step s
 
 -- what a name finds is an entry, or a name of a run-time library file
 pub in_found : (list : List Member) (place : ℕ) (m : Member) (name : List ℕ) (f : FoundDefinition) → IsIn (finds list place m name) f → IsIn (entries list) f ⊎ IsIn (outside (setting_in list)) f
-unfolding finds  with_this_name
+unfolding finds with_this_name
 in_found list place m name f is = elim (in_either (first_step_found (steps_of list place m) (with_this_name name (entries list))) (with_this_name name (outside (setting_in list))) f is) [
   | inl h ↦ inl (in_filter _ (entries list) f (in_decided (steps_of list place m) (with_this_name name (entries list)) f h))
   | inr h ↦ inr (in_filter _ (outside (setting_in list)) f h)

@@ -59,7 +59,7 @@ step_of state number label operation operand op answer front named ink taken is 
     let fields = laid label operation operand front named ink taken in
     let line : Line = line_of 0 number (statement_text label operation operand) in
     let known : IsKnown state line (operation_of (part line.text line.fields.operation)) (part line.text line.fields.label) (part line.text line.fields.operand) answer =
-        rw (fields.label_is, fields.operation_is, fields.operand_is, is) placed in
+    rw (fields.label_is, fields.operation_is, fields.operand_is, is) placed in
     known
 
 -- a statement in the open segment, which isn't too long after it

@@ -91,8 +91,10 @@ entry_checks segments bytes at =
     let own = number_at 2 (at + 2) bytes == 1 in
     (not (number_at 2 at bytes == 0), at)
     ∷ (not (nat_le 1 (number_at 2 (at + 2) bytes) && nat_le (number_at 2 (at + 2) bytes) (length (paths_of segments) + 1)), at + 2)
-    ∷ (own && not (option_map_or (λ s. is_dynamic s.fields.kind && not (is_skipped s.fields.kind)) (segment_at segments (number_at 2 (at + 4) bytes)) false),
-        at + 4)
+    ∷ (
+      own && not (option_map_or (λ s. is_dynamic s.fields.kind && not (is_skipped s.fields.kind)) (segment_at segments (number_at 2 (at + 4) bytes)) false),
+      at + 4,
+    )
     ∷ (own && not (is_place segments (number_at 2 (at + 4) bytes) (number_at 4 (at + 6) bytes)), at + 6)
     ∷ (not (is_call bytes (at + 10)), at + 10)
     ∷ []

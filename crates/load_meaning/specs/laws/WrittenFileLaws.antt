@@ -133,7 +133,7 @@ is_segment at image rest file is part =
     }
 
 is_read_as : (at : ℕ) (image : Image) (rest file : List ℕ) → IsImage image → IsPart at image rest file → IsReadAs image (segment_read at image)
-unfolding segment_read 
+unfolding segment_read
 is_read_as at image rest file is part = record { fields = refl; cells' = by_kind image.whole refl }
   where
     by_kind : (w : Bool) → image.whole ≡ w → cells (segment_read at image) ≡ written_cells image.content image.patches

@@ -34,7 +34,7 @@ unfolding paths_text
 length-paths_text paths all few = omega (arith, length-rows 2 paths all, few)
 
 pub pathnames_image_is : (number : ℕ) (paths : List (List ℕ)) → number < 2 ^ 16 → AllByRecursion IsPath paths → length paths ≤ most_paths → IsImage (pathnames_image number paths)
-unfolding pathnames_image pathnames_fields table_fields image_body 
+unfolding pathnames_image pathnames_fields table_fields image_body
 pathnames_image_is number paths small all few =
     let size = length-paths_text paths all few in
     let data' = plain_data (paths_text paths) in

@@ -61,7 +61,7 @@ length-end = refl
 -- ---- the table
 
 is_image : (number : ℕ) (entries : List Entry) → number < 2 ^ 16 → length entries ≤ 4680 → IsImage (table_image number entries)
-unfolding table_image table_fields image_body  body_text
+unfolding table_image table_fields image_body body_text
 is_image number entries small few =
     let size = length-table_bytes entries in
     let zeros = zeros_within (table_bytes entries) in

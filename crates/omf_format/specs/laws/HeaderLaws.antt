@@ -51,7 +51,7 @@ neither true b e = absurd cc
 neither false b e = (refl, e)
 
 pub sound_from_none : (bytes : List ℕ) → header_fault bytes ≡ None → IsSound bytes (fields_of bytes)
-unfolding header_fault 
+unfolding header_fault
 sound_from_none bytes none =
     let each = each_false (header_checks bytes) none in
     let ends = neither _ _ each.1.1.1.1.1.1.1.1.0 in
@@ -129,7 +129,7 @@ found_among {F = F} P (check ∷ checks) f each e = cases check.0 e (found_among
     cases false e later = later e
 
 pub fault_fits : (bytes : List ℕ) (f : HeaderFault) → header_fault bytes ≡ Some f → FitsFault f (length bytes)
-unfolding header_fault 
+unfolding header_fault
 fault_fits bytes f e = cases (ltb (length bytes) 44) (ltb-false (length bytes) 44) e
   where
     others : List (Bool × HeaderFault)

@@ -427,7 +427,7 @@ without_n l code count n expr rest none e = e ∙ ap (λ (m : ℕ). done (Formul
 
 formula_again : (l : Layout) (code count n : ℕ) (expr rest : List ℕ) → is_formula code ≡ true → is_count count ≡ true → IsDistance (eqb code 0xEE) n → IsExpression l.lab_len expr
     → first_record l (spelling l (Formula code count n expr) ++ rest) ≡ Ok (Formula code count n expr, rest)
-unfolding first_record spelling rows 
+unfolding first_record spelling rows
 formula_again l code count n expr rest is is_count' far is_expr = formula_code (IsAgain l count expr rest) code is
     (λ n far. without_n l 0xEB count n expr rest far (plain_again l 0xEB count expr rest is_count' is_expr))
     (λ n far. without_n l 0xEC count n expr rest far (plain_again l 0xEC count expr rest is_count' is_expr))
@@ -439,7 +439,7 @@ formula_again l code count n expr rest is is_count' far is_expr = formula_code (
 
 -- what is spelled so is read, whatever follows
 pub front-again : (l : Layout) (r : Record) (rest : List ℕ) → IsRecord l r → first_record l (spelling l r ++ rest) ≡ Ok (r, rest)
-unfolding first_record spelling rows  label_field equate_field 
+unfolding first_record spelling rows label_field equate_field
 front-again l End rest fits = refl
 front-again l (Const []) rest fits = absurd (omega arith)
 front-again l (Const (x ∷ bytes)) rest fits =

@@ -187,7 +187,7 @@ record IsBare (image : Image) : Type 0 where
 
 -- its body is the records of its cells, and END
 bare_body : (image : Image) → IsBare image → length (image_body image) ≡ length (body_text image.fields.seg_num image.content image.patches) + length (spelling written_layout End)
-unfolding image_body  body_text
+unfolding image_body body_text
 bare_body image bare =
     let own = body_records image.fields.seg_num image.content image.patches in
     let records : cond image.whole (data_records image.content) own ++ image.exports ≡ own =
