@@ -3,7 +3,6 @@ use Rattle.std.specs.Prelude.{ℕ, List, [], ◌∷◌, ◌++◌, map, if◌then
 use Rattle.std.specs.List.{filter}
 use Rattle.omf_format.specs.Record.{Record, LongConst}
 use Rattle.omf_format.specs.File.{Segment}
-use Rattle.load_meaning.specs.Cells.{Cell, Byte, Part}
 use Rattle.load_meaning.specs.WrittenBody.{body_records}
 use Rattle.omf_compact.specs.Stretches.{stretches, bytes_in}
 use Rattle.omf_compact.specs.Canonical.{Plain, is_entry, is_pathname}

@@ -1,7 +1,6 @@
 use Rattle.std.proofs.Common.{◌≡◌, ◌++◌, ℕ, map, drop, length}
 use Rattle.load_writer.specs.WrittenParts.{seen, IsFront, locations_by_form}
 use Rattle.load_meaning.specs.WrittenBody.{AreWritten}
-use Rattle.load_meaning.specs.laws.Steps.{patches_stored_alone}
 use Rattle.load_writer.proofs.FormLists.{with_left, lone_text}
 use Rattle.load_writer.proofs.written.put_lone.Given as goal
 
