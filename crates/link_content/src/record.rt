@@ -92,22 +92,22 @@ fn put_value(
 pub fn put_record<'a>(
     context: &LinkContext,
     place: RecordPlace,
-    record: ValuedRecord<'_, 'a>,
+    valued: ValuedRecord<'_, 'a>,
     content: &mut LoadContent<'a>,
     table: &mut Table,
 ) -> Result<(), LinkCause>
-    requires counted { IsCounted (view record.rec.now) }
-    requires small { length (content.old).bytes + size_at place.location (view record.rec.now) + 4 < 2 ^ 32 }
+    requires counted { IsCounted (view valued.rec.now) }
+    requires small { length (content.old).bytes + size_at place.location (view valued.rec.now) + 4 < 2 ^ 32 }
     requires near { place.member.offset + place.location < 2 ^ 32 }
     ensures ok { OnOk result ((list : List Member) (reported : List EquateAnswer) (state : LinkState) (i : Item) (front : List Cell)
-        → StandsAt list reported state i context.now place table.old front content.old → IsWorth list reported i (view record.entry.rec.now) record.entry.value
-        → PutsMade (made_by list reported state i (view record.entry.rec.now)) (front ++ cells_before state i) table.new content.new) }
+        → StandsAt list reported state i context.now place table.old front content.old → IsWorth list reported i (view valued.entry.rec.now) valued.entry.value
+        → PutsMade (made_by list reported state i (view valued.entry.rec.now)) (front ++ cells_before state i) table.new content.new) }
     ensures err { IfErr result (λ cause. (list : List Member) (reported : List EquateAnswer) (state : LinkState) (i : Item) (front : List Cell)
-        → StandsAt list reported state i context.now place table.old front content.old → IsWorth list reported i (view record.entry.rec.now) record.entry.value
-        → (cause ≡ causes.Memory) ⊎ (made_by list reported state i (view record.entry.rec.now) ≡ Err cause)) }
+        → StandsAt list reported state i context.now place table.old front content.old → IsWorth list reported i (view valued.entry.rec.now) valued.entry.value
+        → (cause ≡ causes.Memory) ⊎ (made_by list reported state i (view valued.entry.rec.now) ≡ Err cause)) }
 {
-    match record.rec {
-        Rec::Formula { code, count, n, .. } => match record.value {
+    match valued.rec {
+        Rec::Formula { code, count, n, .. } => match valued.value {
             Ok(value) => {
                 let formula = FormulaRecord {
                     code: *code,
@@ -119,7 +119,7 @@ pub fn put_record<'a>(
             }
             Err(fault) => Err(cause_of(fault)),
         },
-        Rec::Equate { .. } => match record.value {
+        Rec::Equate { .. } => match valued.value {
             Ok(_) => Ok(()),
             Err(fault) => Err(cause_of(fault)),
         },
@@ -137,7 +137,7 @@ pub fn put_record<'a>(
         | Rec::Using { .. }
         | Rec::Strong { .. }
         | Rec::Label { .. }
-        | Rec::Entry { .. } => match put_plain(content, record.rec, place.location) {
+        | Rec::Entry { .. } => match put_plain(content, valued.rec, place.location) {
             Ok(()) => Ok(()),
             Err(_) => Err(LinkCause::Memory),
         },
