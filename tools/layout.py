@@ -8,7 +8,8 @@ TOOLS = ("explain",)
 SHARED, DOCUMENTS = "share/omf", "share/doc/omf"
 # Whole folders and patterns of the tree: the folder below the prefix, the folder of the tree, and the files there.
 COPIED = (
-    (DOCUMENTS, ".", ("README.md", "CHANGELOG.md", "docs/*.md", "bench/FIGURES.md", "editors/README.md", "examples/demo", "examples/*/**/*")),
+    (DOCUMENTS, ".", ("README.md", "CHANGELOG.md", "docs/*.md", "bench/FIGURES.md", "editors/README.md")),
+    (DOCUMENTS, ".", ("examples/demo", "examples/*/**/*")),
     *((f"share/man/man{number}", "man", (f"*.{number}",)) for number in (1, 5, 7)),
     ("share/zsh/site-functions", "completions", ("_omf",)),
     ("share/vim/vimfiles", "editors/vim", ("**/*",)),
@@ -70,7 +71,7 @@ def imported(path, folder):
     found, left = set(), [path]
     while left:
         for node in ast.walk(ast.parse(left.pop().read_text(encoding="utf-8"))):
-            names = [it.name for it in node.names] if isinstance(node, ast.Import) else [node.module] if isinstance(node, ast.ImportFrom) else []
+            names = [it.name for it in node.names] if isinstance(node, ast.Import) else [getattr(node, "module", None)]
             for module in (folder / f"{name}.py" for name in names):
                 if module.exists() and module not in found:
                     found.add(module)

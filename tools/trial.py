@@ -6,12 +6,17 @@ from common import say
 from layout import COMPLETED, DOCUMENTS
 
 # The files of an example with lines of arguments, those with what is printed, and the program that gets the arguments.
-RUNS = (("commands", "output", "omf"), ("explain", "explained", "omf-explain"), ("map", "mapped", "omf_map"), ("expand", "expanded", "omf_expand"))
+RUNS = (
+    ("commands", "output", "omf"),
+    ("explain", "explained", "omf-explain"),
+    ("map", "mapped", "omf_map"),
+    ("expand", "expanded", "omf_expand"),
+)
 
 
 def environment(**more):
     """What a program finds that wasn't told where it lies."""
-    return {**{name: text for name, text in os.environ.items() if name not in ("OMF", "MANPATH", "MAKEFLAGS", "MFLAGS", "MAKELEVEL")}, **more}
+    return {**{name: text for name, text in os.environ.items() if name not in ("OMF", "MANPATH")}, **more}
 
 
 # Arguments and what is printed may be bytes that are no text.
