@@ -82,3 +82,8 @@ def need_prover():
     """Ends where `rt` isn't on the path."""
     if not shutil.which("rt"):
         sys.exit("rt is not on the path: it is part of the Rattle toolchain, and nothing here is built or proved without it.")
+
+
+def version(top=TOP):
+    """The version that README.md gives."""
+    return (top / "README.md").read_text(encoding="utf-8").partition("Version ")[2].partition(",")[0]
