@@ -1,4 +1,4 @@
-# Completion of bash for omf, omf_map, omf_expand, and omf-explain, -depends, -compare and -headers. Read it by `source`, or put it where bash-completion looks.
+# Completion of bash for omf, omf_map, omf_expand, and omf-explain, -depends, -compare, -headers and -picture. Read it by `source`, or put it where bash-completion looks.
 
 # _omf_files WORD ENDING..: paths that begin so with one of these endings, or none, and folders.
 _omf_files() {
@@ -84,9 +84,12 @@ _omf_compare() { _omf_first_files 3; }
 
 _omf_headers() { _omf_first_files 1; }
 
+_omf_picture() { _omf_first_files 1; }
+
 complete -F _omf omf omf-explain
 complete -F _omf_map omf_map
 complete -F _omf_expand omf_expand
 complete -F _omf_depends omf-depends
 complete -F _omf_compare omf-compare
 complete -F _omf_headers omf-headers
+complete -F _omf_picture omf-picture

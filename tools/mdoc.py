@@ -13,6 +13,7 @@ MANUALS = {
     "tools/depends": "omf-depends 1",
     "tools/compare": "omf-compare 1",
     "tools/headers": "omf-headers 1",
+    "tools/picture": "omf-picture 1",
     "omf_map": "omf_map 1",
     "omf_expand": "omf_expand 1",
 }
