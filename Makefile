@@ -1,6 +1,9 @@
 # make         proves the programs and builds them to build/; it says how far it is
 # make demo    the same, and then runs the main job on real files
 # make lib     proves the library for C, and puts libomf.a and omf.h into build/
+# make install PREFIX=..   puts the programs, manuals and all else that users get below a prefix, /usr/local if left out; DESTDIR is honoured
+# make uninstall PREFIX=.. removes that again
+# make dist    packs the sources, a release of the programs and a Debian package into build/dist/
 # make try     runs the demo's commands on an unproved build, in a minute or two; tools/try ARGUMENTS.. runs any command so
 # make check   runs every test, stored run and example on unproved builds, in some minutes; it proves nothing
 # make test    the gate: proves everything, tries each must-fail edit, and runs every test and example
@@ -8,7 +11,9 @@
 # make bench   measures the program's speed, and writes the figures to bench/FIGURES.md
 # make refuse  runs the examples, and the loader's calls, with each allocation refused in turn
 
-.PHONY: build demo lib try check test times bench refuse
+PREFIX ?= /usr/local
+
+.PHONY: build demo lib install uninstall dist try check test times bench refuse
 
 build:
 	tools/build
@@ -18,6 +23,15 @@ demo: build
 
 lib:
 	tools/lib
+
+install:
+	DESTDIR='$(DESTDIR)' tools/install '$(PREFIX)'
+
+uninstall:
+	DESTDIR='$(DESTDIR)' tools/install --remove '$(PREFIX)'
+
+dist:
+	tools/dist
 
 try:
 	tools/try
