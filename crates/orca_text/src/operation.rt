@@ -1,10 +1,10 @@
 //! Operations: which mnemonic one is, and what it does with its operand.
 
-ghost use Rattle.std.specs.Prelude.{◌≡◌, ◌≢◌, true, ◌+◌, ◌*◌, ◌<◌, ◌≤◌, length, slice_get, slice_index, MatchOption, Some, None, map, bytes_eq};
+ghost use Rattle.std.specs.Prelude.{◌≡◌, ◌≢◌, true, ◌+◌, ◌*◌, ◌<◌, ◌≤◌, length, slice_get, slice_index, MatchOption, Some, None, map, bytes_eq, if◌then◌else◌};
 ghost use Rattle.std.specs.Char.{to_ascii_uppercase};
 ghost use Rattle.std.specs.List.{list_any};
 ghost use Rattle.orca_meaning.specs.Characters.{folded};
-ghost use Rattle.orca_meaning.specs.Operation.{mnemonics, mnemonic_of, use_of, use_of_other, without_operand};
+ghost use Rattle.orca_meaning.specs.Operation.{mnemonics, mnemonic_of, use_of, without_operand};
 ghost use Rattle.orca_text.specs.Decoding.{IsDecoded};
 ghost use Rattle.orca_text.specs.Spelling.{is_three, key_of};
 
@@ -293,7 +293,7 @@ fn is_without_operand(operation: &[u8]) -> bool
 
 /// What an operation that is no mnemonic does with its operand.
 fn other_use(operation: &[u8]) -> OperandUse
-    ensures { result ≡ use_of_other (list_any (bytes_eq (folded operation.now)) without_operand) }
+    ensures { result ≡ (if list_any (bytes_eq (folded operation.now)) without_operand then OperandUse.Never else OperandUse.Always) }
 {
     if is_without_operand(operation) {
         return OperandUse::Never;
