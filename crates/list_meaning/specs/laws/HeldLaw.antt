@@ -164,7 +164,7 @@ taken_as uses.Always operand some first = tt
 
 pub use_is : (m : Mnemonic) → operation_use (spelling_of m) ≡ use_of m
 unfolding operation_use
-use_is m = rw (spelled m).read refl
+use_is m = rw ((spelled m).read, operation_use) refl
 
 -- ---- what it gives
 
