@@ -11,8 +11,8 @@ use Rattle.omf_format.specs.Record.{spelling}
 use Rattle.load_meaning.specs.Cells.{Patch}
 use Rattle.load_meaning.specs.laws.FormLaws as forms
 use Rattle.load_meaning.specs.laws.WrittenBodyLaws.{form_below}
-use Rattle.load_meaning.specs.WrittenBody.{super_form, of_form, patches_stored_alone, lone_record, super_records}
-use Rattle.load_meaning.specs.laws.Steps.{is_form}
+use Rattle.load_meaning.specs.WrittenBody.{super_form, of_form, lone_record, super_records}
+use Rattle.load_meaning.specs.laws.Steps.{is_form, patches_stored_alone}
 use Rattle.load_writer.specs.WrittenParts.{places, places_from, locations_by_form, put_in, super_of}
 
 -- after the locations of each type, those of the patches that are left

@@ -1,9 +1,9 @@
-use Rattle.std.proofs.Common.{◌+◌, map, drop, refl, sym, subst, ◌∙◌, arith}
+use Rattle.std.proofs.Common.{◌+◌, ◌++◌, map, drop, refl, sym, ap, subst, ◌∙◌, arith}
 use Rattle.std.specs.Prelude.{pos}
 use Rattle.std.proofs.lemmas.List.{length-map, length-drop, at_drop_more}
 use Rattle.std.proofs.lemmas.Result.{err_from_is_err_and}
 use Rattle.omf_format.specs.Field.{written_layout}
-use Rattle.omf_format.specs.Record.{IsRecord}
+use Rattle.omf_format.specs.Record.{Record, IsRecord, spelling}
 use Rattle.load_writer.specs.declared.written.Patch.{Patch}
 use Rattle.load_writer.specs.WrittenParts.{seen}
 use Rattle.load_meaning.specs.WrittenBody.{AreWritten}
@@ -11,6 +11,7 @@ use Rattle.load_meaning.specs.laws.FormLaws.{lone_fits}
 use Rattle.load_writer.proofs.Fronts.{front_whole, front_after}
 use Rattle.load_writer.proofs.FormLists.{below, step_is, size_is, end_is, start_is, start_size, lone_left, lone_put, lone_passed}
 use Rattle.load_writer.proofs.written.put_lone.Goals as goal
+use Rattle.load_writer.proofs.written.put_lone.Goals.{in-Some+in_ok-put_in-in-Some, in-None+in_ok-put_record-in-None}
 
 abbrev no_patch : Patch
 no_patch = record { at = 0; count = 0; shift = pos 0; segment = 0; offset = 0 }
@@ -40,33 +41,31 @@ returns-in_err-put_record-in-None-clause-err c =
     let new = c.put_record.new.out.items in
     rw p.1 (front_after c.args.out.now.items old new c.patches.invariant.front (front_whole old new c.in_err-put_record-in-None.ensures.err))
 
-pub patches-preserved-in-Some : goal.patches-preserved-in-Some
-patches-preserved-in-Some c =
-    let i = c.patches.patch-index in
-    let patches = c.args.patches.now in
-    let is = sym c.super_form.ensures ∙ c.in-Some.is in
-    let next = at_drop_more (map seen) patches i no_patch c.patches-test.true in
-    record {
-      records = lone_passed c.args.own c.in-Some.form _ (map seen (drop (i + 1) patches)) (map seen (drop i patches)) _ _ is next c.patches.invariant.records;
-      lists = step_is c.args.own c.in-Some.form _ (map seen (drop (i + 1) patches)) (map seen (drop i patches)) _ _ _ c.in_ok-put_in-in-Some.ensures is next c.patches.invariant.lists;
-      size = size_is (λ l. l.items) c.patches.lists.items c.put_in.new.lists.items c.in-Some.form _ c.in_ok-put_in-in-Some.ensures ∙ c.patches.invariant.size;
-      left = (_, (subst (AreWritten 0xFFFFFF c.patches.invariant.left.0) next c.patches.invariant.left.1).2);
-      front = c.patches.invariant.front;
-    }
-
 pub patches-preserved : goal.patches-preserved
 patches-preserved c =
     let i = c.patches.patch-index in
     let patches = c.args.patches.now in
-    let is = sym c.super_form.ensures ∙ c.in-None.is in
     let next = at_drop_more (map seen) patches i no_patch c.patches-test.true in
-    record {
-      records = lone_put c.args.own _ (map seen (drop (i + 1) patches)) (map seen (drop i patches)) _ _ _ is next c.in_ok-put_record-in-None.ensures.ok c.patches.invariant.records;
-      lists = lone_left c.args.own _ (map seen (drop (i + 1) patches)) (map seen (drop i patches)) _ _ is next c.patches.invariant.lists;
-      size = c.patches.invariant.size;
-      left = (_, (subst (AreWritten 0xFFFFFF c.patches.invariant.left.0) next c.patches.invariant.left.1).2);
-      front = front_after c.args.out.now.items c.patches.out.items c.put_record.new.out.items c.patches.invariant.front (_, c.in_ok-put_record-in-None.ensures.ok);
-    }
+    elim c.match-super_form.branch [
+      | in-Some+in_ok-put_in-in-Some w ↦
+          let is = sym c.super_form.ensures ∙ w.in-Some.is in
+          rw (w.out-is, w.lists-is) (record {
+            records = lone_passed c.args.own w.in-Some.form _ (map seen (drop (i + 1) patches)) (map seen (drop i patches)) _ _ is next c.patches.invariant.records;
+            lists = step_is c.args.own w.in-Some.form _ (map seen (drop (i + 1) patches)) (map seen (drop i patches)) _ _ _ w.in_ok-put_in-in-Some.ensures is next c.patches.invariant.lists;
+            size = size_is (λ l. l.items) c.patches.lists.items w.put_in.new.lists.items w.in-Some.form _ w.in_ok-put_in-in-Some.ensures ∙ c.patches.invariant.size;
+            left = (_, (subst (AreWritten 0xFFFFFF c.patches.invariant.left.0) next c.patches.invariant.left.1).2);
+            front = c.patches.invariant.front;
+          })
+      | in-None+in_ok-put_record-in-None w ↦
+          let is = sym c.super_form.ensures ∙ w.in-None.is in
+          rw (w.out-is, w.lists-is) (record {
+            records = lone_put c.args.own _ (map seen (drop (i + 1) patches)) (map seen (drop i patches)) _ _ _ is next (w.in_ok-put_record-in-None.ensures.ok ∙ ap (λ (r : Record). c.patches.out.items ++ spelling written_layout r) w.lone_record.ensures) c.patches.invariant.records;
+            lists = lone_left c.args.own _ (map seen (drop (i + 1) patches)) (map seen (drop i patches)) _ _ is next c.patches.invariant.lists;
+            size = c.patches.invariant.size;
+            left = (_, (subst (AreWritten 0xFFFFFF c.patches.invariant.left.0) next c.patches.invariant.left.1).2);
+            front = front_after c.args.out.now.items c.patches.out.items w.put_record.new.out.items c.patches.invariant.front (_, w.in_ok-put_record-in-None.ensures.ok);
+          })
+    ]
 
 pub returns-clause-lists : goal.returns-clause-lists
 returns-clause-lists c =

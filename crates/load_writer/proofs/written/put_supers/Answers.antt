@@ -27,7 +27,7 @@ forms-preserved c =
     let here = flat_map (spelling written_layout) (super_records form (of_form c.args.own patches form)) in
     let rest = flat_map (spelling written_layout) (supers_from c.args.own patches (form + 1) (38 - (form + 1))) in
     let there = c.deref.ensures.value
-    ∙ there_is (λ l. l.items) c.args.lists.now c.args.own patches form c.from.result c.index-locations.result.now c.requires.lists c.from.ensures (omega (arith, c.forms-test.true)) c.index-locations.ensures in
+    ∙ there_is (λ l. l.items) c.args.lists.now c.args.own patches form c.from.result c.index-lists-from.result c.requires.lists c.from.ensures (omega (arith, c.forms-test.true)) c.index-lists-from.is in
     let put : c.put_super.new.out.items ≡ old ++ here =
     c.in_ok-put_super.ensures.ok ∙ ap (λ (rs : List Record). old ++ flat_map (spelling written_layout) rs) (ap (super_of form) there ∙ super_is form (of_form c.args.own patches form)) in
     record {
@@ -40,15 +40,15 @@ forms-preserved c =
       front = front_after c.args.out.now.items old c.put_super.new.out.items c.forms.invariant.front (here, put);
     }
 
-pub index-locations-requires : goal.index-locations-requires
-index-locations-requires c =
+pub bounds-lists-from : goal.bounds-lists-from
+bounds-lists-from c =
     omega (arith, c.from.ensures, c.forms-test.true, lists_size (λ l. l.items) c.args.lists.now c.args.own (map seen c.args.patches.now) c.requires.lists)
 
 pub put_super-requires-clause-rise : goal.put_super-requires-clause-rise
 put_super-requires-clause-rise c =
     let patches = map seen c.args.patches.now in
     let there = c.deref.ensures.value
-    ∙ there_is (λ l. l.items) c.args.lists.now c.args.own patches c.forms.form c.from.result c.index-locations.result.now c.requires.lists c.from.ensures (omega (arith, c.forms-test.true)) c.index-locations.ensures in
+    ∙ there_is (λ l. l.items) c.args.lists.now c.args.own patches c.forms.form c.from.result c.index-lists-from.result c.requires.lists c.from.ensures (omega (arith, c.forms-test.true)) c.index-lists-from.is in
     subst (Rise 0) (sym there) (rise_form c.args.own 0xFFFFFF 0 patches c.forms.form c.requires.patches)
 
 pub put_super-requires-clause-fits : goal.put_super-requires-clause-fits
@@ -56,6 +56,6 @@ put_super-requires-clause-fits c = λ some.
     let patches = map seen c.args.patches.now in
     let of = of_form c.args.own patches c.forms.form in
     let there = c.deref.ensures.value
-    ∙ there_is (λ l. l.items) c.args.lists.now c.args.own patches c.forms.form c.from.result c.index-locations.result.now c.requires.lists c.from.ensures (omega (arith, c.forms-test.true)) c.index-locations.ensures in
+    ∙ there_is (λ l. l.items) c.args.lists.now c.args.own patches c.forms.form c.from.result c.index-lists-from.result c.requires.lists c.from.ensures (omega (arith, c.forms-test.true)) c.index-lists-from.is in
     let more : 1 ≤ length of = omega (arith, some, ap length there, length-map of (λ (p : format.Patch). p.location)) in
     subst (λ (l : List ℕ). IsRecord written_layout (Super c.forms.form (pages_text l))) (sym there) (super_record_fits c.args.own 0xFFFFFF patches c.forms.form (omega arith) c.requires.patches more)
