@@ -59,7 +59,7 @@ pub record IsFalseAt (file : List ℕ) (at : ℕ) : Type 0 where
 -- the rows of a segment of the file with this number, which begins at this displacement: its SEGNAME, where it has one, and then its GLOBAL
 -- and GEQU names in record order
 abbrev pub segment_rows : ℕ → ℕ → Segment → List LibraryRow
-segment_rows file front s = map (λ n. record { name = n.0; file = file; private = n.1; at = front + s.start })
+segment_rows file front s = map (λ (n : List ℕ × Bool). record { name = n.0; file = file; private = n.1; at = front + s.start })
     (filter_map (λ d. elim d.scope [ ForSegment ↦ None | ForUnit ↦ Some (d.name, true) | ForAll ↦ Some (d.name, false) ]) (defined_in s))
 
 -- a file of a library: its name, its bytes, and the segments that they are
