@@ -12,11 +12,13 @@ RUNS = (
     ("map", "mapped", "omf_map"),
     ("expand", "expanded", "omf_expand"),
 )
+# Lines of the shell, which finds the programs on the path, and what is printed.
+STEPS = ("steps", "stepped")
 
 
 def environment(**more):
     """What a program finds that wasn't told where it lies."""
-    return {**{name: text for name, text in os.environ.items() if name not in ("OMF", "MANPATH")}, **more}
+    return {**{name: text for name, text in os.environ.items() if name not in ("OMF", "MANPATH", "MAKEFLAGS", "MFLAGS", "MAKELEVEL")}, **more}
 
 
 # Arguments and what is printed may be bytes that are no text.
@@ -28,26 +30,40 @@ def text_of(path):
 
 
 def run(*command, **how):
-    how = {"env": environment(), **how}
-    return subprocess.run([str(word) for word in command], capture_output=True, encoding="utf-8", errors=ANY_BYTES, **how)
+    how = {"env": environment(), "stdout": subprocess.PIPE, "stderr": subprocess.PIPE, **how}
+    return subprocess.run([str(word) for word in command], encoding="utf-8", errors=ANY_BYTES, **how)
 
 
-def printed(program, lines, room):
-    """What a program prints for each line of arguments, as examples store it."""
+def printed(call, lines):
+    """What is printed where each line is called, as examples store it."""
     for words in text_of(lines).removesuffix("\n").split("\n"):
-        ran = run(program, *words.split(), cwd=room)
-        yield f"$ {words}\n{ran.stdout}{ran.stderr}status {ran.returncode}\n"
+        ran = call(words)
+        yield f"$ {words}\n{ran.stdout}status {ran.returncode}\n"
+
+
+def calls(programs, room):
+    """Of each kind of lines the file with what is printed, and the call of a line."""
+    how = {"cwd": room, "stderr": subprocess.STDOUT, "stdin": subprocess.DEVNULL}
+    for lines, wanted, program in RUNS:
+        yield lines, wanted, lambda words, program=program: run(programs / program, *words.split(), **how)
+    found = environment(PATH=f"{programs}:{os.environ['PATH']}", LC_ALL="C")
+    yield *STEPS, lambda words: run("sh", "-c", words, env=found, **how)
+
+
+def is_possible(example):
+    needs = text_of(example / "needs").split() if (example / "needs").exists() else []
+    return all(map(shutil.which, needs))
 
 
 def faults_of_example(example, programs):
     with tempfile.TemporaryDirectory(prefix="omf-trial-") as room:
         if (example / "input").is_dir():
             shutil.copytree(example / "input", room, dirs_exist_ok=True)
-        for lines, wanted, program in RUNS:
+        for lines, wanted, call in calls(programs, room):
             if (example / lines).exists():
-                told, known = "".join(printed(programs / program, example / lines, room)), text_of(example / wanted)
+                told, known = "".join(printed(call, example / lines)), text_of(example / wanted)
                 if told != known:
-                    differences = list(difflib.unified_diff(known.splitlines(), told.splitlines(), wanted, program, lineterm=""))
+                    differences = list(difflib.unified_diff(known.splitlines(), told.splitlines(), wanted, "printed", lineterm=""))
                     yield f"the example {example.name}:\n" + "\n".join(differences[:40])
         for path in sorted((example / "files").glob("*")):
             made = pathlib.Path(room, path.name)
@@ -97,8 +113,8 @@ def faults_of_library(folder):
 def faults(folder):
     """What is wrong with what is installed below a folder."""
     examples = sorted(path.parent for path in (folder / DOCUMENTS / "examples").glob("*/commands"))
-    # The files of some are made, and large.
-    examples = [example for example in examples if not (example / "make").exists()]
+    # The files of some are made, and large; some need a program that isn't here.
+    examples = [example for example in examples if not (example / "make").exists() and is_possible(example)]
     found = [] if examples else ["no example is there"]
     for example in examples:
         found += faults_of_example(example, folder / "bin")
