@@ -1,5 +1,5 @@
 """What is installed, and where below a prefix: the one table of which `tools/install`, `tools/dist` and their checks are made."""
-import ast
+import ast, re
 
 from common import BUILD, PROGRAM, PROGRAMS, TOP, version
 
@@ -84,12 +84,13 @@ def tool_names(tree):
 
 
 def tools(tree, shared, ending=""):
-    """The tools, the modules that they import, and what starts them, whose names end so."""
-    folder = tree / "tools"
-    paths = [folder / tool for tool in tool_names(tree)]
+    """The tools, the modules that they import, and what starts them, whose names end so. In what a tool says, tools have these names."""
+    folder, names = tree / "tools", tool_names(tree)
+    paths = [folder / tool for tool in names]
     for path in sorted({*paths, *(module for path in paths for module in imported(path, folder))}):
-        yield Item(f"{shared}/tools/{path.name}", path, runs=path in paths)
-    for tool in tool_names(tree):
+        said = re.sub(rf"\btools/({'|'.join(names)})\b", rf"omf-\1{ending}", path.read_text(encoding="utf-8"))
+        yield Item(f"{shared}/tools/{path.name}", text=said, runs=path in paths)
+    for tool in names:
         text = STARTER.format(tool=tool, program=PROGRAM + ending, shared=shared)
         yield Item(f"bin/omf-{tool}{ending}", text=text, runs=True)
 
