@@ -83,13 +83,18 @@ def tool_names(tree):
     return [name for name in names if (tree / "tools" / name).exists()]
 
 
+def as_installed(text, names, ending=""):
+    """A text in which tools have the names under which they are installed."""
+    return re.sub(rf"\btools/({'|'.join(names)})\b", rf"omf-\1{ending}", text)
+
+
 def tools(tree, shared, ending=""):
-    """The tools, the modules that they import, and what starts them, whose names end so. In what a tool says, tools have these names."""
+    """The tools, the modules that they import, and what starts them, whose names end so."""
     folder, names = tree / "tools", tool_names(tree)
     paths = [folder / tool for tool in names]
     for path in sorted({*paths, *(module for path in paths for module in imported(path, folder))}):
-        said = re.sub(rf"\btools/({'|'.join(names)})\b", rf"omf-\1{ending}", path.read_text(encoding="utf-8"))
-        yield Item(f"{shared}/tools/{path.name}", text=said, runs=path in paths)
+        text = as_installed(path.read_text(encoding="utf-8"), names, ending)
+        yield Item(f"{shared}/tools/{path.name}", text=text, runs=path in paths)
     for tool in names:
         text = STARTER.format(tool=tool, program=PROGRAM + ending, shared=shared)
         yield Item(f"bin/omf-{tool}{ending}", text=text, runs=True)

@@ -3,7 +3,7 @@ caller of the library for C. What can't be tried on this machine is said."""
 import difflib, os, pathlib, shlex, shutil, subprocess, tempfile
 
 from common import say
-from layout import COMPLETED, DOCUMENTS
+from layout import COMPLETED, DOCUMENTS, as_installed
 
 # The files of an example with lines of arguments, those with what is printed, and the program that gets the arguments.
 RUNS = (
@@ -56,12 +56,13 @@ def is_possible(example):
 
 
 def faults_of_example(example, programs):
+    tools = [path.name.removeprefix("omf-") for path in programs.glob("omf-*")]
     with tempfile.TemporaryDirectory(prefix="omf-trial-") as room:
         if (example / "input").is_dir():
             shutil.copytree(example / "input", room, dirs_exist_ok=True)
         for lines, wanted, call in calls(programs, room):
             if (example / lines).exists():
-                told, known = "".join(printed(call, example / lines)), text_of(example / wanted)
+                told, known = "".join(printed(call, example / lines)), as_installed(text_of(example / wanted), tools)
                 if told != known:
                     differences = list(difflib.unified_diff(known.splitlines(), told.splitlines(), wanted, "printed", lineterm=""))
                     yield f"the example {example.name}:\n" + "\n".join(differences[:40])
