@@ -1,4 +1,4 @@
-# Completion of bash for omf, omf_map, omf_expand and omf-explain. Read it by `source`, or put it where bash-completion looks.
+# Completion of bash for omf, omf_map, omf_expand, and omf-explain, -depends, -compare, -headers and -picture. Read it by `source`, or put it where bash-completion looks.
 
 # _omf_files WORD ENDING..: paths that begin so with one of these endings, or none, and folders.
 _omf_files() {
@@ -70,6 +70,26 @@ _omf_expand() {
     fi
 }
 
+_omf_depends() {
+    _omf_files "${COMP_WORDS[COMP_CWORD]}" '*.s' '*.asm'
+}
+
+# _omf_first_files MOST: any file, for as many arguments as that.
+_omf_first_files() {
+    COMPREPLY=()
+    [ "$COMP_CWORD" -le "$1" ] && _omf_files "${COMP_WORDS[COMP_CWORD]}" '*'
+}
+
+_omf_compare() { _omf_first_files 3; }
+
+_omf_headers() { _omf_first_files 1; }
+
+_omf_picture() { _omf_first_files 1; }
+
 complete -F _omf omf omf-explain
 complete -F _omf_map omf_map
 complete -F _omf_expand omf_expand
+complete -F _omf_depends omf-depends
+complete -F _omf_compare omf-compare
+complete -F _omf_headers omf-headers
+complete -F _omf_picture omf-picture

@@ -1,5 +1,5 @@
 """What the tools share: where things lie, the crates of crates.txt, a clock, and what is said on standard error."""
-import hashlib, pathlib, shutil, signal, subprocess, sys, time
+import hashlib, os, pathlib, shutil, signal, subprocess, sys, time
 
 TOP = pathlib.Path(__file__).resolve().parent.parent
 CRATES = TOP / "crates"
@@ -14,13 +14,19 @@ def say(text):
 
 
 def run_main(main):
-    """Ends with the status of main; one that is asked to stop removes what it made first, and ends quietly."""
+    """Ends with the status of main; one that is asked to stop, or that nobody reads any more, ends quietly after it removed what it made."""
     for it in (signal.SIGTERM, signal.SIGHUP):
         signal.signal(it, lambda number, _: sys.exit(128 + number))
     try:
-        sys.exit(main(sys.argv[1:]))
+        status = main(sys.argv[1:])
+        sys.stdout.flush()
+        sys.exit(status)
     except KeyboardInterrupt:
         sys.exit(128 + signal.SIGINT)
+    except BrokenPipeError:
+        # What is still to be printed goes nowhere.
+        os.dup2(os.open(os.devnull, os.O_WRONLY), sys.stdout.fileno())
+        sys.exit(128 + signal.SIGPIPE)
 
 
 class Clock:

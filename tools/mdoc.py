@@ -10,6 +10,10 @@ MANUALS = {
     "docs/LOADER.md": "omf-script 5",
     "docs/C.md": "omf 3",
     "tools/explain": "omf-explain 1",
+    "tools/depends": "omf-depends 1",
+    "tools/compare": "omf-compare 1",
+    "tools/headers": "omf-headers 1",
+    "tools/picture": "omf-picture 1",
     "omf_map": "omf_map 1",
     "omf_expand": "omf_expand 1",
 }

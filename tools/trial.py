@@ -50,12 +50,16 @@ def calls(programs, room):
     yield *STEPS, lambda words: run("sh", "-c", words, env=found, **how)
 
 
-def is_possible(example):
-    needs = text_of(example / "needs").split() if (example / "needs").exists() else []
-    return all(map(shutil.which, needs))
+def missing(example):
+    """What an example needs, and isn't on this machine."""
+    needs = example / "needs"
+    return [name for name in text_of(needs).split() if not shutil.which(name)] if needs.exists() else []
 
 
 def faults_of_example(example, programs):
+    if missing(example):
+        say(f"The example {example.name} isn't run: there is no {', no '.join(missing(example))}.")
+        return
     tools = [path.name.removeprefix("omf-") for path in programs.glob("omf-*")]
     with tempfile.TemporaryDirectory(prefix="omf-trial-") as room:
         if (example / "input").is_dir():
@@ -114,8 +118,8 @@ def faults_of_library(folder):
 def faults(folder):
     """What is wrong with what is installed below a folder."""
     examples = sorted(path.parent for path in (folder / DOCUMENTS / "examples").glob("*/commands"))
-    # The files of some are made, and large; some need a program that isn't here.
-    examples = [example for example in examples if not (example / "make").exists() and is_possible(example)]
+    # The files of some are made, and large.
+    examples = [example for example in examples if not (example / "make").exists()]
     found = [] if examples else ["no example is there"]
     for example in examples:
         found += faults_of_example(example, folder / "bin")

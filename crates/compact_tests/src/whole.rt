@@ -151,7 +151,7 @@ fn a_broken_part_comes_first(rt: HostRuntime) -> Result<(), Fail> {
     add(&mut file, 2, 0, 4, 0, &BROKEN)?;
     same(
         &rt,
-        &"behind a long segment",
+        &"after a long segment",
         fault(rt.alloc(), &file),
         Some((CompactCause::BrokenPart, 2, 1)),
     );

@@ -35,7 +35,7 @@ pub fn open_fault(error: Error) -> ReadFault
     }
 }
 
-/// All bytes that a reader has left, at most 16,777,216. `told` says how many they are, and may be wrong.
+/// All bytes that a reader has left, at most 16,777,216. `reported` is said to be their number, and may be wrong.
 pub fn read_whole<R: Read + Drop>(
     alloc: Global,
     reader: R,

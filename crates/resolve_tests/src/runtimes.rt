@@ -415,7 +415,7 @@ static FAULTS: [Row; 27] = [
         Fact::Refused(NotDynamic, 1, 1, 0),
     ),
     (
-        "a skipped load segment behind a dynamic one",
+        "a skipped load segment after a dynamic one",
         &[Whole(Skipped)],
         &[],
         RuntimeForm,

@@ -4,14 +4,14 @@ use crate::asking::{ask, ask_number, asked};
 use crate::expanding::report_expanded;
 use crate::failing::run_each;
 use crate::fixture::Fixture;
-use crate::fronts::dump_fronts;
 use crate::loading::load;
 use crate::pieces::{
     displacement, hex, number, put_again, put_at, put_hex, put_series, put_text, text_of,
 };
+use crate::prefixes::dump_prefixes;
+use crate::reporting::{put_line, report_bytes, report_run, report_text};
 use crate::running::{run, words_of};
 use crate::shelf::{Shelf, ShelfFile};
-use crate::telling::{report_bytes, report_run, report_text, reveal};
 use std::alloc::{AllocError, Global};
 
 /// Where the body of a segment with a name of one letter begins.
@@ -26,30 +26,30 @@ fn first_word(line: &str) -> (&str, &str) {
 }
 
 /// Does what a line says.
-pub fn act(alloc: Global, bench: &mut Fixture, line: &str) -> Result<(), AllocError> {
+pub fn act(alloc: Global, fixture: &mut Fixture, line: &str) -> Result<(), AllocError> {
     let (word, rest) = first_word(line);
     match word {
         "" | ";" => Ok(()),
-        "==" => begin(bench, line),
-        "let" | "file" | "+" | "put" => open(alloc, &mut bench.shelf, word, rest),
-        "|" | "text" | "x" | "fill" | "repeat" | "series" | "cut" => match bench.shelf.last() {
+        "==" => begin(fixture, line),
+        "let" | "file" | "+" | "put" => open(alloc, &mut fixture.shelf, word, rest),
+        "|" | "text" | "x" | "fill" | "repeat" | "series" | "cut" => match fixture.shelf.last() {
             Some(bytes) => put_piece(alloc, bytes, word, rest),
             None => Ok(()),
         },
-        "at" | "count" => change(alloc, &mut bench.shelf, word, rest),
-        "store" | "sink" | "last" => set(alloc, bench, word, rest),
-        "bytes" | "end" | "body" | "show" => ask(alloc, bench, word, rest),
-        "size" | "reads" => ask_number(alloc, bench, word),
-        "hold" => hold(alloc, bench, rest),
-        _ => do_row(alloc, bench, line, word, rest),
+        "at" | "count" => change(alloc, &mut fixture.shelf, word, rest),
+        "store" | "sink" | "last" => set(alloc, fixture, word, rest),
+        "bytes" | "end" | "body" | "show" => ask(alloc, fixture, word, rest),
+        "size" | "reads" => ask_number(alloc, fixture, word),
+        "hold" => hold(alloc, fixture, rest),
+        _ => do_row(alloc, fixture, line, word, rest),
     }
 }
 
 /// Begins a row, whose title is printed.
-fn begin(bench: &mut Fixture, line: &str) -> Result<(), AllocError> {
-    bench.begin();
-    reveal(bench.out(), "")?;
-    reveal(bench.out(), line)
+fn begin(fixture: &mut Fixture, line: &str) -> Result<(), AllocError> {
+    fixture.begin();
+    put_line(fixture.out(), "")?;
+    put_line(fixture.out(), line)
 }
 
 /// Begins a file of all rows or of the row, a segment, or nothing, and appends pieces that are named.
@@ -128,62 +128,68 @@ fn calls_of(alloc: Global, words: &str) -> Result<Vec<u32>, AllocError> {
 }
 
 /// Sets which calls fail, or how many of the last lines are printed.
-fn set(alloc: Global, bench: &mut Fixture, word: &str, rest: &str) -> Result<(), AllocError> {
+fn set(alloc: Global, fixture: &mut Fixture, word: &str, rest: &str) -> Result<(), AllocError> {
     match word {
-        "store" => bench.store = calls_of(alloc, rest)?,
-        "sink" => bench.sink = calls_of(alloc, rest)?,
-        _ => bench.lines = number(rest),
+        "store" => fixture.store = calls_of(alloc, rest)?,
+        "sink" => fixture.sink = calls_of(alloc, rest)?,
+        _ => fixture.lines = number(rest),
     }
     Ok(())
 }
 
 /// Stores the bytes at `out` at a path of the row.
-fn hold(alloc: Global, bench: &mut Fixture, path: &str) -> Result<(), AllocError> {
-    let bytes = match bench.outcome.output() {
+fn hold(alloc: Global, fixture: &mut Fixture, path: &str) -> Result<(), AllocError> {
+    let bytes = match fixture.outcome.output() {
         Some(bytes) => bytes.to_vec(alloc)?,
         None => Vec::new(alloc),
     };
-    bench.shelf.put(alloc, path, bytes)
+    fixture.shelf.put(alloc, path, bytes)
 }
 
 /// Prints a line, and then does what it says.
 fn do_row(
     alloc: Global,
-    bench: &mut Fixture,
+    fixture: &mut Fixture,
     line: &str,
     word: &str,
     rest: &str,
 ) -> Result<(), AllocError> {
-    reveal(bench.out(), line)?;
+    put_line(fixture.out(), line)?;
     let (what, following) = first_word(rest);
     match (word, what) {
-        (">", "") => run_list(alloc, bench, &Vec::new(alloc)),
-        (">", _) => run_list(alloc, bench, &words_of(alloc, rest)?),
-        ("each", _) => run_each(alloc, bench, what == "store", following),
-        ("fronts", _) => dump_fronts(alloc, bench, what == "counted", following),
-        ("records", _) => link_records(alloc, bench, what, following),
-        ("asm", _) => assemble(alloc, bench, what, following),
-        ("forms", _) => assemble_forms(alloc, bench, what, following),
-        ("load", _) => load(alloc, bench, what),
-        ("script", _) => run_script(alloc, bench, rest),
-        ("expand" | "expands" | "places", _) => expand(alloc, bench, word, what, following),
-        _ => reveal(bench.out(), "? no such line"),
+        (">", "") => run_list(alloc, fixture, &Vec::new(alloc)),
+        (">", _) => run_list(alloc, fixture, &words_of(alloc, rest)?),
+        ("each", _) => run_each(alloc, fixture, what == "store", following),
+        ("prefixes", _) => dump_prefixes(alloc, fixture, what == "counted", following),
+        ("records", _) => link_records(alloc, fixture, what, following),
+        ("asm", _) => assemble(alloc, fixture, what, following),
+        ("forms", _) => assemble_forms(alloc, fixture, what, following),
+        ("load", _) => load(alloc, fixture, what),
+        ("script", _) => run_script(alloc, fixture, rest),
+        ("expand" | "expands" | "places", _) => expand(alloc, fixture, word, what, following),
+        _ => put_line(fixture.out(), "? no such line"),
     }
 }
 
 /// Runs the tool with these arguments over the row's files, and prints what it did.
-fn run_list(alloc: Global, bench: &mut Fixture, words: &Vec<String>) -> Result<(), AllocError> {
-    let run = run(alloc, words, bench.shelf.row(), &bench.store, &bench.sink)?;
-    let lines = bench.lines;
-    report_run(alloc, bench.out(), &run, lines)?;
-    bench.outcome = run;
+fn run_list(alloc: Global, fixture: &mut Fixture, words: &Vec<String>) -> Result<(), AllocError> {
+    let run = run(
+        alloc,
+        words,
+        fixture.shelf.row(),
+        &fixture.store,
+        &fixture.sink,
+    )?;
+    let lines = fixture.lines;
+    report_run(alloc, fixture.out(), &run, lines)?;
+    fixture.outcome = run;
     Ok(())
 }
 
 /// Runs the tool with these arguments over one file, and prints this part of the bytes at `out` then, or else what the tool printed.
 fn run_one(
     alloc: Global,
-    bench: &mut Fixture,
+    fixture: &mut Fixture,
     words: &str,
     file: ShelfFile,
     part: (&str, &str),
@@ -192,10 +198,10 @@ fn run_one(
     row.push(file)?;
     let run = run(alloc, &words_of(alloc, words)?, &row, &[], &[])?;
     match asked(&run, part.0, part.1) {
-        Some(made) => report_bytes(bench.out(), made)?,
-        None => report_text(bench.out(), &run.text)?,
+        Some(made) => report_bytes(fixture.out(), made)?,
+        None => report_text(fixture.out(), &run.text)?,
     }
-    bench.outcome = run;
+    fixture.outcome = run;
     Ok(())
 }
 
@@ -209,11 +215,11 @@ fn held(alloc: Global, path: &str, bytes: Vec<u8>) -> Result<ShelfFile, AllocErr
 fn between(
     alloc: Global,
     shelf: &Shelf,
-    front: &str,
+    before: &str,
     text: &str,
     following: &str,
 ) -> Result<Vec<u8>, AllocError> {
-    let mut bytes = shelf.copy_of(alloc, front)?;
+    let mut bytes = shelf.copy_of(alloc, before)?;
     put_text(&mut bytes, text)?;
     bytes.extend_from_slice(&shelf.copy_of(alloc, following)?)?;
     Ok(bytes)
@@ -222,30 +228,35 @@ fn between(
 /// The source that two words and the text after them give: the file of the first word, the text, and the file of the second.
 fn source_of(
     alloc: Global,
-    bench: &Fixture,
-    front: &str,
+    fixture: &Fixture,
+    before: &str,
     rest: &str,
 ) -> Result<Vec<u8>, AllocError> {
     let (following, text) = first_word(rest);
-    between(alloc, &bench.shelf, front, text, following)
+    between(alloc, &fixture.shelf, before, text, following)
 }
 
 /// Assembles a source, and prints the records of its first segment.
-fn assemble(alloc: Global, bench: &mut Fixture, front: &str, rest: &str) -> Result<(), AllocError> {
-    let source = source_of(alloc, bench, front, rest)?;
+fn assemble(
+    alloc: Global,
+    fixture: &mut Fixture,
+    before: &str,
+    rest: &str,
+) -> Result<(), AllocError> {
+    let source = source_of(alloc, fixture, before, rest)?;
     let file = held(alloc, "src", source)?;
-    run_one(alloc, bench, "asm src out", file, ("bytes", BODY))
+    run_one(alloc, fixture, "asm src out", file, ("bytes", BODY))
 }
 
-/// What the tool prints for a source of the text `front` and one statement of a mnemonic with an operand.
+/// What the tool prints for a source of the text `before` and one statement of a mnemonic with an operand.
 fn said_of(
     alloc: Global,
-    front: &[u8],
+    before: &[u8],
     mnemonic: &str,
     operand: &str,
 ) -> Result<Vec<u8>, AllocError> {
     let operand = if operand == "''" { "" } else { operand };
-    let mut source = Vec::from_slice(alloc, front)?;
+    let mut source = Vec::from_slice(alloc, before)?;
     let line = format!(in alloc; " {mnemonic} {operand}\n")?;
     source.extend_from_slice(line.as_bytes())?;
     let mut row = Vec::new(alloc);
@@ -258,16 +269,16 @@ fn said_of(
 /// in common.
 fn assemble_forms(
     alloc: Global,
-    bench: &mut Fixture,
+    fixture: &mut Fixture,
     mnemonic: &str,
     operands: &str,
 ) -> Result<(), AllocError> {
-    let front = bench.shelf.copy_of(alloc, "START")?;
+    let before = fixture.shelf.copy_of(alloc, "START")?;
     let mut last = Vec::new(alloc);
     for operand in operands.split(' ') {
-        let said = said_of(alloc, &front, mnemonic, operand)?;
+        let said = said_of(alloc, &before, mnemonic, operand)?;
         if said.as_slice() != last.as_slice() {
-            report_form(alloc, bench.out(), operand, &said)?;
+            report_form(alloc, fixture.out(), operand, &said)?;
             last = said;
         }
     }
@@ -281,28 +292,28 @@ fn report_form(
     operand: &str,
     said: &[u8],
 ) -> Result<(), AllocError> {
-    reveal(out, format!(in alloc; "from {operand}")?.as_str())?;
+    put_line(out, format!(in alloc; "from {operand}")?.as_str())?;
     report_text(out, said)
 }
 
 /// Runs a script.
-fn run_script(alloc: Global, bench: &mut Fixture, text: &str) -> Result<(), AllocError> {
+fn run_script(alloc: Global, fixture: &mut Fixture, text: &str) -> Result<(), AllocError> {
     let file = held(alloc, "s", text_of(alloc, text)?)?;
-    run_one(alloc, bench, "run s", file, ("", ""))
+    run_one(alloc, fixture, "run s", file, ("", ""))
 }
 
 /// Expands a source with the row's files.
 fn expand(
     alloc: Global,
-    bench: &mut Fixture,
+    fixture: &mut Fixture,
     word: &str,
-    front: &str,
+    before: &str,
     rest: &str,
 ) -> Result<(), AllocError> {
-    let source = source_of(alloc, bench, front, rest)?;
+    let source = source_of(alloc, fixture, before, rest)?;
     let mut reported = Vec::new(alloc);
-    report_expanded(alloc, &mut reported, word, &source, bench.shelf.row())?;
-    bench.out().extend_from_slice(&reported)
+    report_expanded(alloc, &mut reported, word, &source, fixture.shelf.row())?;
+    fixture.out().extend_from_slice(&reported)
 }
 
 /// The object of a segment M of a given number of cells with these records, and of the segments that the file `OTHERS` has.
@@ -325,11 +336,11 @@ fn object_of(
 /// Links records, and prints the body of the first load segment.
 fn link_records(
     alloc: Global,
-    bench: &mut Fixture,
+    fixture: &mut Fixture,
     cells: &str,
     records: &str,
 ) -> Result<(), AllocError> {
-    let object = object_of(alloc, &bench.shelf, number(cells), records)?;
+    let object = object_of(alloc, &fixture.shelf, number(cells), records)?;
     let file = held(alloc, "obj", object)?;
-    run_one(alloc, bench, "link out obj", file, ("body", ""))
+    run_one(alloc, fixture, "link out obj", file, ("body", ""))
 }

@@ -2,8 +2,8 @@
 
 use crate::fixture::Fixture;
 use crate::pieces::{hex, number};
+use crate::reporting::{put_line, report_bytes};
 use crate::running::RunOutcome;
-use crate::telling::{report_bytes, reveal};
 use std::alloc::{AllocError, Global};
 
 /// Where the body of a load segment without a name begins.
@@ -48,22 +48,22 @@ pub fn asked<'a>(run: &'a RunOutcome, word: &str, rest: &str) -> Option<&'a [u8]
 }
 
 /// Prints what is asked for by a word and the text after it.
-pub fn ask(alloc: Global, bench: &mut Fixture, word: &str, rest: &str) -> Result<(), AllocError> {
+pub fn ask(alloc: Global, fixture: &mut Fixture, word: &str, rest: &str) -> Result<(), AllocError> {
     let mut reported = Vec::new(alloc);
-    match asked(&bench.outcome, word, rest) {
+    match asked(&fixture.outcome, word, rest) {
         Some(bytes) => report_bytes(&mut reported, bytes)?,
-        None => reveal(&mut reported, "nothing")?,
+        None => put_line(&mut reported, "nothing")?,
     }
-    bench.out().extend_from_slice(&reported)
+    fixture.out().extend_from_slice(&reported)
 }
 
 /// Prints how many bytes are at `out`, or how often the store was read.
-pub fn ask_number(alloc: Global, bench: &mut Fixture, word: &str) -> Result<(), AllocError> {
-    let number = match (word, bench.outcome.output()) {
+pub fn ask_number(alloc: Global, fixture: &mut Fixture, word: &str) -> Result<(), AllocError> {
+    let number = match (word, fixture.outcome.output()) {
         ("size", Some(bytes)) => bytes.len() as u64,
         ("size", None) => 0,
-        _ => bench.outcome.reads,
+        _ => fixture.outcome.reads,
     };
     let line = format!(in alloc; "{word} {number}")?;
-    reveal(bench.out(), line.as_str())
+    put_line(fixture.out(), line.as_str())
 }

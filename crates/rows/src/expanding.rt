@@ -1,7 +1,7 @@
 //! Sources that are expanded.
 
+use crate::reporting::put_line;
 use crate::shelf::ShelfFile;
-use crate::telling::reveal;
 use orca_macro::expand;
 use orca_text::Lines;
 use std::alloc::{AllocError, Global};
@@ -34,7 +34,7 @@ fn report_places(alloc: Global, out: &mut Vec<u8>, lines: &Lines) -> Result<(), 
     for place in 0..lines.count() {
         if let Some(line) = lines.get(place) {
             let place = format!(in alloc; "{} {}", line.file, line.line)?;
-            reveal(out, place.as_str())?;
+            put_line(out, place.as_str())?;
         }
     }
     Ok(())
@@ -50,7 +50,7 @@ fn report_given(
     match word {
         "expand" => report_lines(out, lines),
         "places" => report_places(alloc, out, lines),
-        _ => reveal(out, "expanded"),
+        _ => put_line(out, "expanded"),
     }
 }
 
@@ -72,7 +72,7 @@ pub fn report_expanded(
         Err(fault) => {
             let (cause, file, line) = (fault.cause, fault.file, fault.line);
             let reported = format!(in alloc; "refused {cause:?} {file} {line}")?;
-            reveal(out, reported.as_str())
+            put_line(out, reported.as_str())
         }
     }
 }

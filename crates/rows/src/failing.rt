@@ -1,9 +1,9 @@
 //! Runs in which one call fails, the number of the call rising until a run meets no failure.
 
 use crate::fixture::Fixture;
+use crate::reporting::{put_line, report_text};
 use crate::running::{RunOutcome, run, words_of};
 use crate::shelf::ShelfFile;
-use crate::telling::{report_text, reveal};
 use std::alloc::{AllocError, Global};
 
 /// More calls than any run here makes.
@@ -13,7 +13,7 @@ const MOST: u32 = 64;
 fn left_of(run: &RunOutcome, whole: &RunOutcome) -> &'static str {
     match (run.output(), whole.output()) {
         (Some(left), Some(bytes)) if left == bytes => ", all at out",
-        (Some(left), Some(bytes)) if bytes.starts_with(left) => ", a front at out",
+        (Some(left), Some(bytes)) if bytes.starts_with(left) => ", a prefix at out",
         (Some(_), _) => ", other bytes at out",
         (None, _) => "",
     }
@@ -29,9 +29,9 @@ fn report_failing(
 ) -> Result<(), AllocError> {
     let (status, reads, left) = (run.status, run.reads, left_of(run, whole));
     let line = format!(in alloc; "call {call}: {status:?}, reads {reads}{left}")?;
-    reveal(out, line.as_str())?;
+    put_line(out, line.as_str())?;
     if !run.is_kept {
-        reveal(out, "a file changed that was held")?;
+        put_line(out, "a file changed that was held")?;
     }
     report_text(out, &run.text)
 }
@@ -73,11 +73,11 @@ fn report_all(
 /// Runs the tool with these arguments while each call fails in turn: those of the store, or those of the sink.
 pub fn run_each(
     alloc: Global,
-    bench: &mut Fixture,
+    fixture: &mut Fixture,
     of_store: bool,
     words: &str,
 ) -> Result<(), AllocError> {
     let words = words_of(alloc, words)?;
-    let reported = report_all(alloc, &words, bench.shelf.row(), of_store)?;
-    bench.out().extend_from_slice(&reported)
+    let reported = report_all(alloc, &words, fixture.shelf.row(), of_store)?;
+    fixture.out().extend_from_slice(&reported)
 }

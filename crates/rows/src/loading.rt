@@ -1,7 +1,7 @@
 //! Load files that are read.
 
 use crate::fixture::Fixture;
-use crate::telling::reveal;
+use crate::reporting::put_line;
 use omf_cells::{LoadFault, read_load};
 use std::alloc::{AllocError, Global};
 
@@ -23,12 +23,12 @@ fn fault_in(alloc: Global, file: &[u8]) -> Option<LoadFault> {
 }
 
 /// Reads the load file at a path, and prints its fault or that it has none.
-pub fn load(alloc: Global, bench: &mut Fixture, path: &str) -> Result<(), AllocError> {
-    let file = bench.shelf.copy_of(alloc, path)?;
+pub fn load(alloc: Global, fixture: &mut Fixture, path: &str) -> Result<(), AllocError> {
+    let file = fixture.shelf.copy_of(alloc, path)?;
     let Some(fault) = fault_in(alloc, &file) else {
-        return reveal(bench.out(), "loaded");
+        return put_line(fixture.out(), "loaded");
     };
     let (cause, segment, at) = (fault.cause, fault.segment, fault.at);
     let reported = format!(in alloc; "refused {cause:?} {segment} {at:08X}")?;
-    reveal(bench.out(), reported.as_str())
+    put_line(fixture.out(), reported.as_str())
 }

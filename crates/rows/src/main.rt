@@ -1,5 +1,5 @@
 //! Tests as rows: reads rows from standard input, each of files and of arguments of the tool, runs the tool on them over stores and sinks
-//! in memory, and prints what it did. The file `stdin` beside `src/` says how a row is written, and `stdout` is what is expected.
+//! in memory, and prints what it did. `subjects/files.rows` says how a row is written; `stdin` and `stdout` are made from the subjects.
 #![tactic(auto)]
 
 mod acts;
@@ -7,12 +7,12 @@ mod asking;
 mod expanding;
 mod failing;
 mod fixture;
-mod fronts;
 mod loading;
 mod pieces;
+mod prefixes;
+mod reporting;
 mod running;
 mod shelf;
-mod telling;
 
 use acts::act;
 use fixture::Fixture;
@@ -21,11 +21,11 @@ use std::io::{self, Write};
 
 /// What the rows of a text print.
 fn reported(alloc: Global, text: &str) -> Result<Vec<u8>, AllocError> {
-    let mut bench = Fixture::new(alloc);
+    let mut fixture = Fixture::new(alloc);
     for line in text.split('\n') {
-        act(alloc, &mut bench, line)?;
+        act(alloc, &mut fixture, line)?;
     }
-    Ok(bench.into_reported())
+    Ok(fixture.into_reported())
 }
 
 fn main(rt: HostRuntime) -> io::Result<()> {

@@ -209,7 +209,7 @@ module _ (held : FileMap) (loader : Loaded) (state : Machine) (agrees : Agrees h
   same_refused (Ok place) why e = absurd cc
   same_refused (Err other) why e = cc
 
-  -- following a JSL to an entry enters the entry's target, or is refused for want of the file or of room
+  -- following a JSL to an entry enters the entry's target, or is refused where the file or room is missing
   pub calls_enter : (result : Result answers.Entered LoaderFault) (new : Loaded) (before now : ℕ) → Meets RoomRule held state (Jsl id number at) (jsl_reply result) new before now → EntersTarget state id t result
   calls_enter result new before now (inl met) = steps_enter result met.0.0 met.0.1
   calls_enter result new before now (inr (inl unread)) = subst (λ (r : Result answers.Entered LoaderFault). EntersTarget state id t r) (sym (same_refused result CannotRead unread.0)) (inl refl)

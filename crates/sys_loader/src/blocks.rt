@@ -116,7 +116,7 @@ impl Loader {
         ensures refuses { IfErr result (λ fault. (held : FileMap) (state : Machine) → Agrees held self.old state
             → MetAlloc RoomRule held state want.now locked level movable (Refused fault) self.new) }
 
-        // And so much is true of it over any files.
+        // Over any files this much of it holds.
         ensures placed { IfOk result (λ h. IsPlaced RoomRule self.old.memory want.now 0 locked level movable h self.new.memory × (self.new.users ≡ self.old.users)) }
         ensures refused { IfErr result (IsAllocRefusal self.old.memory want.now) }
         ensures err { OnErr result (self.new ≡ self.old) }
@@ -139,7 +139,7 @@ impl Loader {
         // Over files with which the loader agrees, it is the machine's step.
         ensures meets { (held : FileMap) (state : Machine) → Agrees held self.old state → Met RoomRule held state Compact (Moved result) self.new }
 
-        // And so much is true of it over any files: locked blocks and those of users stay where they are.
+        // Over any files this much of it holds: locked blocks and those of users stay where they are.
         ensures slid { IsSlid self.old.memory self.new.memory × (self.new.users ≡ self.old.users) }
         ensures count { result ≡ count_moved self.old.memory.slots self.new.memory.slots }
         ensures none_rises { NoAddressRises self.old.memory.banks self.old.memory.slots self.new.memory.slots }
@@ -154,7 +154,7 @@ impl Loader {
         // Over files with which the loader agrees, it is the machine's step.
         ensures meets { (held : FileMap) (state : Machine) → Agrees held self.old state → Met RoomRule held state (Free h) (done_reply result) self.new }
 
-        // And so much is true of it over any files.
+        // Over any files this much of it holds.
         ensures freed { IfOk result (λ _. IsFreed self.old.memory h self.new.memory × (self.new.users ≡ self.old.users)
             × IsSomeAnd (get self.old.memory.slots h) (λ block. block.user ≡ 0)) }
         ensures refused { IfErr result (λ fault. free_refusal self.old.memory.slots h ≡ Some fault) }
@@ -183,7 +183,7 @@ impl Loader {
         // Over files with which the loader agrees, it is the machine's step.
         ensures meets { (held : FileMap) (state : Machine) → Agrees held self.old state → Met RoomRule held state (Lock h) (done_reply result) self.new }
 
-        // And so much is true of it over any files.
+        // Over any files this much of it holds.
         ensures changed { IfOk result (λ _. HasChanged self.old h (λ block. record block { locked = true }) self.new) }
         ensures refused { IfErr result (λ fault. change_refusal self.old.memory.slots h ≡ Some fault) }
         ensures err { OnErr result (self.new ≡ self.old) }
@@ -211,7 +211,7 @@ impl Loader {
         // Over files with which the loader agrees, it is the machine's step.
         ensures meets { (held : FileMap) (state : Machine) → Agrees held self.old state → Met RoomRule held state (Unlock h) (done_reply result) self.new }
 
-        // And so much is true of it over any files.
+        // Over any files this much of it holds.
         ensures changed { IfOk result (λ _. HasChanged self.old h (λ block. record block { locked = false }) self.new) }
         ensures refused { IfErr result (λ fault. change_refusal self.old.memory.slots h ≡ Some fault) }
         ensures err { OnErr result (self.new ≡ self.old) }
@@ -239,7 +239,7 @@ impl Loader {
         // Over files with which the loader agrees, it is the machine's step.
         ensures meets { (held : FileMap) (state : Machine) → Agrees held self.old state → Met RoomRule held state (Level h n) (done_reply result) self.new }
 
-        // And so much is true of it over any files.
+        // Over any files this much of it holds.
         ensures changed { IfOk result (λ _. HasChanged self.old h (λ block. record block { level = n }) self.new) }
         ensures refused { IfErr result (λ fault. change_refusal self.old.memory.slots h ≡ Some fault) }
         ensures err { OnErr result (self.new ≡ self.old) }
@@ -253,7 +253,7 @@ impl Loader {
         // Over files with which the loader agrees, it is the machine's step.
         ensures meets { (held : FileMap) (state : Machine) → Agrees held self.now state → Met RoomRule held state (StateOf h) (state_reply result) self.now }
 
-        // And so much is true of it over any files.
+        // Over any files this much of it holds.
         ensures state { result_ok result ≡ option_map state_of (get self.now.memory.slots h) }
         ensures refused { IfErr result (λ fault. state_refusal self.now.memory.slots h ≡ Some fault) }
     {
@@ -269,7 +269,7 @@ impl Loader {
         // Over files with which the loader agrees, it is the machine's step.
         ensures meets { (held : FileMap) (state : Machine) → Agrees held self.now state → Met RoomRule held state Room (RoomIs result) self.now }
 
-        // And so much is true of it over any files.
+        // Over any files this much of it holds.
         ensures counts { CountsBelow (IsRoom self.now.memory.banks self.now.memory.slots) (2 ^ 24) result }
     {
         self.banks.room()

@@ -287,7 +287,7 @@ impl Loader {
         ensures needed { (held : FileMap) (state : Machine) → (F.seen files.old).held ≡ Some held → Agrees held self.old state
             → ReadsNeeded held state (LoadSegment user segment) 0 (F.seen files.old).asked (F.seen files.new).asked }
 
-        // And so much is true of it over any files.
+        // Over any files this much of it holds.
         ensures did { DidActivate (F.seen files.old).held self.old user segment result self.new (F.seen files.old).faults (F.seen files.new).faults }
     {
         self.recall_invariant();

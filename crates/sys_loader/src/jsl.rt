@@ -227,11 +227,11 @@ impl Loader {
         ensures needed { (held : FileMap) (state : Machine) → (F.seen files.old).held ≡ Some held → Agrees held self.old state
             → ReadsNeeded held state (commands.Jsl user segment at) 0 (F.seen files.old).asked (F.seen files.new).asked }
 
-        // A JSL to the code of an entry enters where the entry leads, or is refused for want of the file, a handle, room or memory.
+        // A JSL to the code of an entry enters where the entry leads, or is refused where the file, a handle, room or memory is missing.
         ensures enters { (held : FileMap) (state : Machine) → (F.seen files.old).held ≡ Some held → Agrees held self.old state
             → (target : Target) → HasCall held state user segment at target → EntersTarget state user target result }
 
-        // And so much is true of it over any files.
+        // Over any files this much of it holds.
         ensures did { DidJsl (F.seen files.old).held self.old user segment at result self.new (F.seen files.old).faults (F.seen files.new).faults }
     {
         self.recall_invariant();

@@ -351,7 +351,7 @@ impl Loader {
         ensures needed { (held : FileMap) (state : Machine) → (F.seen files.old).held ≡ Some held → Agrees held self.old state
             → MeetsReads RoomRule held state (Load path.now) (load_reply result) self.new (F.seen files.old) (F.seen files.new) }
 
-        // And so much is true of it over any files, with how many of them were read.
+        // Over any files this much of it holds, with how many of them were read.
         ensures loaded { (reads : ℕ) × HasLoaded (F.seen files.old).held self.old path.now result self.new (F.seen files.old).faults (F.seen files.new).faults reads
             × ((F.seen files.new).asked ≡ saturating_sum reads (F.seen files.old).asked) }
     {

@@ -188,7 +188,7 @@ impl Loader {
         ensures refuses { IfErr result (λ fault. (held : FileMap) (state : Machine) → Agrees held self.now state
             → Met RoomRule held state (Bytes user segment at length) (Refused fault) self.now) }
 
-        // And so much is true of it over any files.
+        // Over any files this much of it holds.
         ensures borrowed { IfOk result (λ bytes. HasBorrowed self.now user segment at length bytes.now) }
         ensures refused { IfErr result (λ fault. bytes_refusal self.now.memory.slots (seen_by self.now user) segment at length ≡ Some fault) }
     {
@@ -216,7 +216,7 @@ impl Loader {
         // Over files with which the loader agrees, it is the machine's step.
         ensures meets { (held : FileMap) (state : Machine) → Agrees held self.now state → Met RoomRule held state (commands.Info user segment) (info_reply result) self.now }
 
-        // And so much is true of it over any files.
+        // Over any files this much of it holds.
         ensures reported { IfOk result (λ info. HasReported self.now user segment info.presence info.length info.kind) }
         ensures refused { IfErr result (λ fault. info_refusal (seen_by self.now user) segment ≡ Some fault) }
     {
@@ -256,7 +256,7 @@ impl Loader {
         // Over files with which the loader agrees, it is the machine's step.
         ensures meets { (held : FileMap) (state : Machine) → Agrees held self.now state → Met RoomRule held state (commands.Where address) (where_reply result) self.now }
 
-        // And so much is true of it over any files.
+        // Over any files this much of it holds.
         ensures lies { MatchOption result ((id number offset : ℕ) → ¬ LiesIn self.now address id number offset)
             (λ entered. LiesIn self.now address entered.user entered.segment entered.offset × (entered.address ≡ address)) }
 

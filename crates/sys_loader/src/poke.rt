@@ -63,7 +63,7 @@ impl Loader {
         ensures meets { (held : FileMap) (state : Machine) → Agrees held self.old state
             → Met RoomRule held state (Poke user segment at byte) (done_reply result) self.new }
 
-        // And so much is true of it over any files.
+        // Over any files this much of it holds.
         ensures did { DidPoke self.old user segment at byte result self.new }
     {
         self.recall_invariant();

@@ -44,7 +44,7 @@ impl Loader {
         // Over files with which the loader agrees, it is the machine's step.
         ensures meets { (held : FileMap) (state : Machine) → Agrees held self.old state → Met RoomRule held state (Purge user) (purge_reply result) self.new }
 
-        // And so much is true of it over any files.
+        // Over any files this much of it holds.
         ensures did { DidPurge self.old user result self.new }
     {
         self.recall_invariant();

@@ -155,7 +155,7 @@ impl Loader {
         ensures meets { (held : FileMap) (state : Machine) → Agrees held self.old state
             → Met RoomRule held state (ShutDown user keep) (done_reply result) self.new }
 
-        // And so much is true of it over any files.
+        // Over any files this much of it holds.
         ensures did { DidShutDown self.old user keep result self.new }
     {
         self.recall_invariant();

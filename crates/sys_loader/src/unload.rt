@@ -49,7 +49,7 @@ impl Loader {
         ensures meets { (held : FileMap) (state : Machine) → Agrees held self.old state
             → Met RoomRule held state (UnloadSegment user segment) (done_reply result) self.new }
 
-        // And so much is true of it over any files.
+        // Over any files this much of it holds.
         ensures did { DidUnload self.old user segment result self.new }
     {
         self.recall_invariant();

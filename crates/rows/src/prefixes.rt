@@ -2,9 +2,9 @@
 
 use crate::fixture::Fixture;
 use crate::pieces::put_at;
+use crate::reporting::{put_line, report_text};
 use crate::running::{RunOutcome, run, words_of};
 use crate::shelf::ShelfFile;
-use crate::telling::{report_text, reveal};
 use std::alloc::{AllocError, Global};
 
 /// Dumps a file.
@@ -16,10 +16,10 @@ fn dump(alloc: Global, bytes: Vec<u8>) -> Result<RunOutcome, AllocError> {
 }
 
 /// Dumps a prefix of a file, as it is or with its length as BYTECNT.
-fn dump_front(alloc: Global, front: &[u8], counted: bool) -> Result<RunOutcome, AllocError> {
-    let mut bytes = front.to_vec(alloc)?;
+fn dump_prefix(alloc: Global, prefix: &[u8], counted: bool) -> Result<RunOutcome, AllocError> {
+    let mut bytes = prefix.to_vec(alloc)?;
     if counted {
-        let size = (front.len() % 0x1_0000_0000) as u32;
+        let size = (prefix.len() % 0x1_0000_0000) as u32;
         put_at(&mut bytes, 0, &size.to_le_bytes());
     }
     dump(alloc, bytes)
@@ -29,11 +29,11 @@ fn dump_front(alloc: Global, front: &[u8], counted: bool) -> Result<RunOutcome, 
 fn is_cut(
     alloc: Global,
     out: &mut Vec<u8>,
-    front: &[u8],
+    prefix: &[u8],
     counted: bool,
 ) -> Result<bool, AllocError> {
-    let size = front.len();
-    let run = dump_front(alloc, front, counted)?;
+    let size = prefix.len();
+    let run = dump_prefix(alloc, prefix, counted)?;
     let line = format!(in alloc; "refused Truncated 1 1 {size:08X}\n")?;
     if run.text.as_slice() == line.as_bytes() {
         return Ok(true);
@@ -57,19 +57,19 @@ fn report_prefixes(
             cut = cut.wrapping_add(1);
         }
     }
-    reveal(&mut reported, format!(in alloc; "{cut} are cut")?.as_str())?;
+    put_line(&mut reported, format!(in alloc; "{cut} are cut")?.as_str())?;
     Ok(reported)
 }
 
 /// Dumps the prefixes of the file at a path: all as they are, or those with a whole header with their length as BYTECNT.
-pub fn dump_fronts(
+pub fn dump_prefixes(
     alloc: Global,
-    bench: &mut Fixture,
+    fixture: &mut Fixture,
     counted: bool,
     path: &str,
 ) -> Result<(), AllocError> {
-    let file = bench.shelf.copy_of(alloc, path)?;
+    let file = fixture.shelf.copy_of(alloc, path)?;
     let from = if counted { 44 } else { 1 };
     let reported = report_prefixes(alloc, &file, from, counted)?;
-    bench.out().extend_from_slice(&reported)
+    fixture.out().extend_from_slice(&reported)
 }

@@ -7,7 +7,7 @@ use std::alloc::{AllocError, Global};
 const WIDTH: usize = 32;
 
 /// Prints a line.
-pub fn reveal(out: &mut Vec<u8>, line: &str) -> Result<(), AllocError> {
+pub fn put_line(out: &mut Vec<u8>, line: &str) -> Result<(), AllocError> {
     out.extend_from_slice(line.as_bytes())?;
     out.push(b'\n')?;
     Ok(())
@@ -91,11 +91,11 @@ pub fn report_run(
     run: &RunOutcome,
     lines: usize,
 ) -> Result<(), AllocError> {
-    reveal(out, format!(in alloc; "{:?}", run.status)?.as_str())?;
+    put_line(out, format!(in alloc; "{:?}", run.status)?.as_str())?;
     if lines == 0 {
         report_text(out, &run.text)?;
     } else {
-        reveal(out, "..")?;
+        put_line(out, "..")?;
         report_text(out, last_lines(&run.text, lines))?;
     }
     report_left(out, run)
@@ -104,10 +104,10 @@ pub fn report_run(
 /// Prints whether anything is at `out`, and whether a file changed that the store held.
 fn report_left(out: &mut Vec<u8>, run: &RunOutcome) -> Result<(), AllocError> {
     if run.made.is_some() {
-        reveal(out, "written")?;
+        put_line(out, "written")?;
     }
     if !run.is_kept {
-        reveal(out, "a file changed that was held")?;
+        put_line(out, "a file changed that was held")?;
     }
     Ok(())
 }

@@ -1,0 +1,3 @@
+         MCOPY 13/AINCLUDE/M16.TOOLS
+LOST     START
+         END

@@ -1,0 +1,1 @@
+* Lines of the Apple end with CR.         MCOPY here.macSUB      START         RTL         END

@@ -1,0 +1,1 @@
+about.o: about.s calls.mac tools.mac

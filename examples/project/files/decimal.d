@@ -1,0 +1,1 @@
+decimal.o: decimal.s calls.mac widths.mac

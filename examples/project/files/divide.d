@@ -1,0 +1,1 @@
+divide.o: divide.s calls.mac

@@ -1,0 +1,1 @@
+main.o: main.s calls.mac tools.mac

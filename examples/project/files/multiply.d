@@ -1,0 +1,1 @@
+multiply.o: multiply.s calls.mac

@@ -1,0 +1,38 @@
+"""The forms of the program's commands: which of their arguments are paths of inputs, and which is that of the output."""
+
+# The arguments of each command.
+FORMS = {
+    "asm": "SRC OBJ MACROS..",
+    "lib": "OUT OBJ..",
+    "link": "OUT FILE..",
+    "rtl": "OUT FILE..",
+    "linkrt": "OUT K FILE..",
+    "dump": "FILE",
+    "compact": "IN OUT",
+    "list": "OBJ SRC",
+    "run": "SCRIPT",
+}
+
+
+def inputs(command, words):
+    """The paths of the files that a command reads, in the order in which a refusal numbers them."""
+    if command == "asm":
+        return [words[0], *words[2:]]
+    if command in ("lib", "link", "rtl"):
+        return words[1:]
+    return words[2:] if command == "linkrt" else words[:1]
+
+
+def output(command, words):
+    """The path of the file that a command writes; None where it writes none."""
+    if command in ("lib", "link", "rtl", "linkrt"):
+        return words[0]
+    return words[1] if command in ("asm", "compact", "list") else None
+
+
+def has_form(command, words):
+    """Whether a command can have this many arguments."""
+    names = FORMS[command].split()
+    if not names[-1].endswith(".."):
+        return len(words) == len(names)
+    return len(words) >= len(names) - (command == "asm")
