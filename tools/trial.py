@@ -34,9 +34,15 @@ def run(*command, **how):
     return subprocess.run([str(word) for word in command], encoding="utf-8", errors=ANY_BYTES, **how)
 
 
+def lines_of(path):
+    """The lines of a file, of which the last may have no end; an empty file has none."""
+    *whole, rest = text_of(path).split("\n")
+    return [*whole, rest] if rest else whole
+
+
 def printed(call, lines):
     """What is printed where each line is called, as examples store it."""
-    for words in text_of(lines).removesuffix("\n").split("\n"):
+    for words in lines_of(lines):
         ran = call(words)
         yield f"$ {words}\n{ran.stdout}status {ran.returncode}\n"
 
