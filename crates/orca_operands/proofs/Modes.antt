@@ -34,13 +34,14 @@ first_holds w m p n first modes k width b found kind_is width_is is passes =
 -- two searches, one after the other, in either order
 found_either : (test other : Mode → Bool) (modes : List Mode) → find test (filter other modes) ≡ find other (filter test modes)
 found_either test other [] = refl
-found_either test other (x ∷ modes) = by (test x) (other x) refl refl
+found_either test other (x ∷ modes) = by (test x) (other x) refl refl (found_either test other modes)
   where
-    by : (t o : Bool) → test x ≡ t → other x ≡ o → find test (cond o (x ∷ filter other modes) (filter other modes)) ≡ find other (cond t (x ∷ filter test modes) (filter test modes))
-    by true true is is' = ap (λ (b : Bool). cond b (Some x) (find test (filter other modes))) is ∙ sym (ap (λ (b : Bool). cond b (Some x) (find other (filter test modes))) is')
-    by true false is is' = found_either test other modes ∙ sym (ap (λ (b : Bool). cond b (Some x) (find other (filter test modes))) is')
-    by false true is is' = ap (λ (b : Bool). cond b (Some x) (find test (filter other modes))) is ∙ found_either test other modes
-    by false false is is' = found_either test other modes
+    by : (t o : Bool) → test x ≡ t → other x ≡ o → find test (filter other modes) ≡ find other (filter test modes)
+        → find test (cond o (x ∷ filter other modes) (filter other modes)) ≡ find other (cond t (x ∷ filter test modes) (filter test modes))
+    by true true is is' rest = ap (λ (b : Bool). cond b (Some x) (find test (filter other modes))) is ∙ sym (ap (λ (b : Bool). cond b (Some x) (find other (filter test modes))) is')
+    by true false is is' rest = rest ∙ sym (ap (λ (b : Bool). cond b (Some x) (find other (filter test modes))) is')
+    by false true is is' rest = ap (λ (b : Bool). cond b (Some x) (find test (filter other modes))) is ∙ rest
+    by false false is is' rest = rest
 
 -- where one mode at most passes a test, it is found if it passes the other too
 two_found : (test other : Mode → Bool) (modes : List Mode) (mode : Mode) → filter test modes ≡ mode ∷ [] → find test (filter other modes) ≡ cond (other mode) (Some mode) None
