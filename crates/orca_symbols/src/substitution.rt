@@ -1,6 +1,6 @@
 //! Symbols in a line, and the texts that replace them (ORCA/M reference manual, "Symbolic parameters").
 
-ghost use Rattle.std.specs.Prelude.{◌≡◌, ◌≤◌, ◌+◌, ◌<◌, ◌-◌, List, ℕ, length, take, drop, Some, None, IfOk, OnOk, MatchOption, IsTrue, IfSome, ◌++◌, ◌==◌};
+ghost use Rattle.std.specs.Prelude.{◌≡◌, ◌≤◌, ◌+◌, ◌<◌, ◌-◌, List, ℕ, length, take, drop, Some, None, is_none, IfOk, OnOk, MatchOption, IsTrue, IfSome, ◌++◌, ◌==◌};
 ghost use Rattle.std.specs.Char.{to_ascii_uppercase};
 ghost use Rattle.orca_meaning.specs.Characters.{is_letter, is_name_start};
 ghost use Rattle.orca_meaning.specs.Line.{LiesIn, HaveFields, part};

@@ -4,6 +4,7 @@ ghost use Rattle.std.specs.Prelude.{◌≡◌, ◌+◌, ◌<◌, ◌≤◌, ◌^
 ghost use Rattle.macro_meaning.specs.Symbol.{text_of, decimal, signed_decimal, kind_of, declaration_of, is_kind, is_declaration, first_text, is_count, with_name};
 ghost use Rattle.macro_meaning.specs.Call.{no_symbols};
 ghost use Rattle.macro_meaning.specs.Visit.{no_texts};
+ghost use Rattle.macro_meaning.specs.laws.Steps;
 ghost use Rattle.orca_symbols.specs.Changes.{IsRenewed, IsRenewedIn};
 ghost use Rattle.orca_symbols.specs.Held.{value_of_name};
 ghost use Rattle.orca_symbols.specs.View.{symbol, shared_text, symbols_of, texts_of, values};
@@ -236,8 +237,8 @@ impl SharedTextTable {
 /// The text of a shared symbol.
 fn common_text<'a>(texts: &'a SharedTextTable, name: &[u8]) -> Option<&'a [u8]>
     ensures short { IfSome result (λ t. length t.now ≤ 255) }
-    ensures text { MatchOption result (Rattle.macro_meaning.specs.laws.Steps.shared_text (texts_of texts.now name.now) ≡ None)
-        (λ t. Rattle.macro_meaning.specs.laws.Steps.shared_text (texts_of texts.now name.now) ≡ Some t.now) }
+    ensures text { MatchOption result (Steps.shared_text (texts_of texts.now name.now) ≡ None)
+        (λ t. Steps.shared_text (texts_of texts.now name.now) ≡ Some t.now) }
 {
     match texts.get(name) {
         Some(found) => Some(found.text.bytes()),
