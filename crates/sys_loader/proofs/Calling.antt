@@ -25,7 +25,7 @@ use Rattle.loader_machine.specs.State.{User, Machine, UserSeen, handles_of, held
 use Rattle.loader_machine.specs.Presences.{presence_at, is_active}
 use Rattle.loader_machine.specs.Stands.{place_in, stands}
 use Rattle.loader_machine.specs.Found.{HoldsLoad}
-use Rattle.loader_machine.specs.Refusals.{Refuse, bytes_refusal}
+use Rattle.loader_machine.specs.Refusals.{Refuse, of_segment, bytes_refusal}
 use Rattle.loader_machine.specs.Commands.{Reply, Bytes, Jsl, Where, Entered, Lies, Shown, Refused}
 use Rattle.loader_machine.specs.laws.OnceLaws.{one_load}
 use Rattle.loader_machine.specs.Steps.{Sees, seen_of, StandsIn, IsAt, AddressPlace, Nowhere, In, IsLocated, Decides, Either, no_jsl, address_of, target_at_code, StepsJsl, Activation, OutOfSlots, OutOfRoom, Made, Steps}
@@ -81,7 +81,7 @@ bytes_pass : (slots : Slots) (seen : UserSeen) (number at count : ℕ) (head : S
 unfolding bytes_refusal
 bytes_pass slots seen number at count head runs head' loaded active inside =
     let within : nat_le (at + count) head.length ≡ true = grind (arith, inside) in
-    rw (runs, head', loaded, active, within) refl
+    rw (runs, head', loaded, active, within, of_segment) refl
 
 -- ---- replies
 

@@ -17,7 +17,7 @@ use Rattle.loader_machine.specs.Heads.{at_number, is_table}
 use Rattle.loader_machine.specs.declared.seen.Life.TheVariants.{Running}
 use Rattle.loader_machine.specs.State.{UserSeen, first_id, user_of, named_by}
 use Rattle.loader_machine.specs.Presences.{handle_at, presence, there_at}
-use Rattle.loader_machine.specs.Refusals.{load_segment_refusal}
+use Rattle.loader_machine.specs.Refusals.{of_segment, load_segment_refusal}
 use Rattle.loader_agrees.specs.Agrees.{LoadedUser, Loaded, kept_outlines, AreAttached, IsCall, IsSound, seen_in, seen_by}
 use Rattle.loader_agrees.specs.Acts.{HasBorrowed, LiesIn}
 use Rattle.loader_agrees.specs.laws.Leading.{row_of}
@@ -39,7 +39,7 @@ loaned_size loader sound id number at count bytes borrowed =
 pub passes_all : (seen : UserSeen) (number : ℕ) (head : SegmentHead) → seen.life ≡ Running → at_number seen.heads number ≡ Some head → is_skipped head.kind ≡ false → is_dynamic head.kind ≡ true
     → load_segment_refusal (Some seen) number ≡ None
 unfolding load_segment_refusal
-passes_all seen number head runs head' kept dynamic = rw (runs, head', kept, dynamic) refl
+passes_all seen number head runs head' kept dynamic = rw (runs, head', kept, dynamic, of_segment) refl
 
 -- the user that an entry names runs where the table's user does
 pub named_runs : (users : List (Option LoadedUser)) → AreAttached users → (owner file other : ℕ) (k k' : LoadedUser) → user_of users owner ≡ Some k → k.life ≡ Running → named_by (kept_outlines users) owner file ≡ Some other

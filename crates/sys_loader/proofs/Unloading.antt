@@ -140,7 +140,7 @@ roomy old place kept sound made = record {
 }
   where
     at_block : (slots : Slots) (h : Handle) (block : Block) → Rattle.iigs_meaning.specs.Slots.get slots h ≡ Some block → IsSome (there_at (presence slots (Some h))) → IsSome block.at
-    at_block slots h block is there = go block.at block.locked (subst (λ (o : Option Block). IsSome (there_at (Rattle.loader_machine.specs.laws.Words.lies_in h o))) is there)
+    at_block slots h block is there = go block.at block.locked (subst (λ (o : Option Block). IsSome (there_at (Rattle.loader_machine.specs.Presences.lies_in h o))) is there)
       where
         go : (at : Option ℕ) (locked : Bool) → IsSome (there_at (lies_at h at locked)) → IsSome at
         go None locked e = absurd cc
