@@ -1,7 +1,9 @@
 -- How the emitter's types are seen.
-use Rattle.std.specs.Prelude.{not, List, Result, Ok, Err, if◌then◌else◌}
+use Rattle.std.specs.Prelude.{not, ◌||◌, List, length, Result, Ok, Err, nat_lt, if◌then◌else◌}
+use Rattle.std.specs.List.{list_any}
 use Rattle.omf_format.specs.Header.{HeaderFields, is_dynamic}
 use Rattle.load_meaning.specs.declared.table.Target.{Target}
+use Rattle.load_meaning.specs.Table.{most_entries, is_same}
 use Rattle.link_meaning.specs.declared.fault.LinkCause.{LinkCause}
 use Rattle.link_meaning.specs.declared.fault.LinkCause.TheVariants.{TooManyEntries}
 use Rattle.link_meaning.specs.Member.{LinkSetting}
@@ -33,7 +35,8 @@ to_load_limits f = record { dynamic = is_dynamic f.kind; length = f.length; bank
 abbrev pub with_room : List Target → meaning.Fit → Result meaning.Fit LinkCause
 with_room targets (meaning.Number n) = Ok (meaning.Number n)
 with_room targets (meaning.Place segment offset shift) = Ok (meaning.Place segment offset shift)
-with_room targets (meaning.Entry target) = if not (meaning.has_room_for targets target) then Err TooManyEntries else Ok (meaning.Entry target)
+with_room targets (meaning.Entry target) =
+    if not (list_any (is_same target) targets || nat_lt (length targets) most_entries) then Err TooManyEntries else Ok (meaning.Entry target)
 
 -- what becomes of a value once its target has room
 abbrev pub fit_with_room : List Target → Result FitOutcome LinkCause → Result meaning.Fit LinkCause
