@@ -8,7 +8,7 @@ returns-then-is_offered c =
     ap (λ (x : Bool). or_first c.args.first (cond x (Some c.in-Some.mode) None)) (sym c.if-is_offered.true)
     ∙ tree_mode_found c.args.mnemonic c.args.form c.args.prefix c.args.first c.in-Some.mode c.is_offered.result c.in-Some.ensures c.is_offered.ensures
 
-pub returns-in-Some : goal.returns-in-Some
-returns-in-Some c =
+pub returns-else-is_offered : goal.returns-else-is_offered
+returns-else-is_offered c =
     ap (λ (x : Bool). or_first c.args.first (cond x (Some c.in-Some.mode) None)) (sym c.if-is_offered.false)
     ∙ tree_mode_found c.args.mnemonic c.args.form c.args.prefix c.args.first c.in-Some.mode c.is_offered.result c.in-Some.ensures c.is_offered.ensures
