@@ -10,12 +10,13 @@ use Rattle.orca_symbols.specs.Piece.{AreNotTwo}
 use Rattle.orca_symbols.specs.Plain.{plain_len}
 use Rattle.orca_symbols.proofs.Fronts.{plain_text}
 use Rattle.macro_meaning.specs.declared.statements.Statement.{Statement}
-use Rattle.macro_meaning.specs.Statements.{statement_of, target_name, whole_match}
+use Rattle.macro_meaning.specs.Statements.{statement_of, target_name}
 use Rattle.macro_meaning.specs.Substitution.{naming_at}
 use Rattle.orca_macro.specs.declared.effect.Effect.{Effect}
 use Rattle.orca_macro.specs.EffectView.{effect_view}
 use Rattle.macro_meaning.specs.declared.faults.MacroCause.{MacroCause}
 use Rattle.macro_meaning.specs.declared.faults.MacroCause.TheVariants.{BadSetting}
+use Rattle.macro_meaning.specs.Effect as meaning
 use Rattle.macro_meaning.specs.Effect.{SymbolSetting, pair_or_earlier_fault, or_bad, operation_or_anop, IsDone, IsStatement, IsEffect}
 use Rattle.macro_meaning.specs.laws.Steps.{going, IsBranchIf, IsDoneBy, IsShort, IsWithTexts, substituted_line, IsWritten}
 
