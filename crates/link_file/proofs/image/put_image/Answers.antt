@@ -1,4 +1,4 @@
-use Rattle.std.proofs.Common.{◌≡◌, ◌+◌, ◌-◌, ◌++◌, ◌∙◌, ℕ, List, refl, ap, length, map, arith}
+use Rattle.std.proofs.Common.{◌≡◌, ◌+◌, ◌-◌, ◌++◌, ◌∙◌, ℕ, List, refl, ap, length, map, replicate, arith}
 use Rattle.std.proofs.lemmas.Result.{err_from_is_err_and}
 use Rattle.omf_format.specs.Header.{header_bytes}
 use Rattle.omf_format.specs.laws.WrittenHeaderLaws.{length-header}
@@ -29,7 +29,7 @@ returns-in_err-front-clause-too_long c =
     let text = body_text f.seg_num content.bytes patches in
     let body = text ++ c.args.exports.now in
     let size : length (image_text (image_in f content records)) ≡ 0x37 + length f.name + (length body + 1) = text_size f content.bytes patches records body c.recall_header_size.ensures (ap (λ (l : List ℕ). text ++ l) same) in
-    let following = after_size c.args.out.now.items body c.put_after.new.out.items c.as_slice-start.result.now c.as_slice.result.now c.header_size-room.result c.as_slice-start.ensures.value c.as_slice.ensures.value (after_room _ _ _ _ _ c.in_ok-put_room.ensures c.in_ok-zeros.ensures.bytes) in
+    let following = after_size c.args.out.now.items body c.put_after.new.out.items c.as_slice-start.result.now c.as_slice.result.now c.header_size-room.result c.as_slice-start.ensures.value c.as_slice.ensures.value (after_room c.args.out.now.items c.put_room.new.out.items c.put_after.new.out.items (replicate c.header_size-room.result 0) body c.in_ok-put_room.ensures c.in_ok-zeros.ensures.bytes) in
     omega (arith, size, following, c.in_err-front.ensures.too_long (made_long _ _ _ _ p.2 e)))
 
 pub close_segment-requires : goal.close_segment-requires
@@ -37,7 +37,7 @@ close_segment-requires c =
     let content = c.args.content.now in
     let f = fields c.args.header.now in
     let body = body_text f.seg_num content.bytes (map seen content.patches) ++ c.args.exports.now in
-    let following = after_size c.args.out.now.items body c.put_after.new.out.items c.as_slice-start.result.now c.put_after.new.out.items c.header_size-room.result c.as_slice-start.ensures.value refl (after_room _ _ _ _ _ c.in_ok-put_room.ensures c.in_ok-zeros.ensures.bytes) in
+    let following = after_size c.args.out.now.items body c.put_after.new.out.items c.as_slice-start.result.now c.put_after.new.out.items c.header_size-room.result c.as_slice-start.ensures.value refl (after_room c.args.out.now.items c.put_room.new.out.items c.put_after.new.out.items (replicate c.header_size-room.result 0) body c.in_ok-put_room.ensures c.in_ok-zeros.ensures.bytes) in
     let front = ap length (c.as_slice-2.ensures.value ∙ c.in_ok-front.ensures.ok) ∙ length-header (with_reserved_zeros f c.in_ok-zeros.zeros) _ c.recall_header_size.ensures in
     omega (arith, following, front, c.header_size-room.ensures.value)
 
@@ -49,7 +49,7 @@ returns-clause-ok c =
     let text = body_text f.seg_num content.bytes patches in
     let body = text ++ c.args.exports.now in
     let zeros = zeros_after (written_cells content.bytes patches) in
-    let following = after_size c.args.out.now.items body c.put_after.new.out.items c.as_slice-start.result.now c.as_slice.result.now c.header_size-room.result c.as_slice-start.ensures.value c.as_slice.ensures.value (after_room _ _ _ _ _ c.in_ok-put_room.ensures c.in_ok-zeros.ensures.bytes) in
+    let following = after_size c.args.out.now.items body c.put_after.new.out.items c.as_slice-start.result.now c.as_slice.result.now c.header_size-room.result c.as_slice-start.ensures.value c.as_slice.ensures.value (after_room c.args.out.now.items c.put_room.new.out.items c.put_after.new.out.items (replicate c.header_size-room.result 0) body c.in_ok-put_room.ensures c.in_ok-zeros.ensures.bytes) in
     let reported = c.as_slice-2.ensures.value ∙ c.in_ok-front.ensures.ok in
     let size = ap length reported ∙ length-header (with_reserved_zeros f c.in_ok-zeros.zeros) _ c.recall_header_size.ensures in
     let room : length c.as_slice-2.result.now ≡ c.header_size-room.result = omega (arith, size, c.header_size-room.ensures.value) in
@@ -58,7 +58,7 @@ returns-clause-ok c =
     reported ∙ spaced_bytes f c.in_ok-zeros.zeros _ ∙ ap (λ (z : ℕ). header_bytes (with_space f z) (length c.as_slice.result.now - length c.as_slice-start.result.now - c.header_size-room.result + 1)) c.in_ok-zeros.ensures.zeros
     ∙ ap (λ (k : ℕ). header_bytes (with_space f zeros) (k + 1)) same in
     λ records spells.
-    closed c.args.out.now.items c.as_slice-2.result.now body c.put_after.new.out.items c.as_slice-start.result.now c.close_segment.new.out.items c.header_size-room.result c.as_slice-start.ensures.value (after_room _ _ _ _ _ c.in_ok-put_room.ensures c.in_ok-zeros.ensures.bytes) room c.in_ok-close_segment.ensures.ok
+    closed c.args.out.now.items c.as_slice-2.result.now body c.put_after.new.out.items c.as_slice-start.result.now c.close_segment.new.out.items c.header_size-room.result c.as_slice-start.ensures.value (after_room c.args.out.now.items c.put_room.new.out.items c.put_after.new.out.items (replicate c.header_size-room.result 0) body c.in_ok-put_room.ensures c.in_ok-zeros.ensures.bytes) room c.in_ok-close_segment.ensures.ok
     ∙ ap (λ (l : List ℕ). c.args.out.now.items ++ l) (text_is f content.bytes patches records c.as_slice-2.result.now body (ap (λ (l : List ℕ). text ++ l) spells) front)
 
 pub returns-in_err-close_segment-clause-too_long : goal.returns-in_err-close_segment-clause-too_long
@@ -71,5 +71,5 @@ returns-in_err-close_segment-clause-too_long c =
     let text = body_text f.seg_num content.bytes patches in
     let body = text ++ c.args.exports.now in
     let size : length (image_text (image_in f content records)) ≡ 0x37 + length f.name + (length body + 1) = text_size f content.bytes patches records body c.recall_header_size.ensures (ap (λ (l : List ℕ). text ++ l) same) in
-    let following = after_size c.args.out.now.items body c.put_after.new.out.items c.as_slice-start.result.now c.put_after.new.out.items c.header_size-room.result c.as_slice-start.ensures.value refl (after_room _ _ _ _ _ c.in_ok-put_room.ensures c.in_ok-zeros.ensures.bytes) in
+    let following = after_size c.args.out.now.items body c.put_after.new.out.items c.as_slice-start.result.now c.put_after.new.out.items c.header_size-room.result c.as_slice-start.ensures.value refl (after_room c.args.out.now.items c.put_room.new.out.items c.put_after.new.out.items (replicate c.header_size-room.result 0) body c.in_ok-put_room.ensures c.in_ok-zeros.ensures.bytes) in
     omega (arith, size, following, ap length c.as_slice-start.ensures.value, c.header_size-room.ensures.value, c.in_err-close_segment.ensures.too_long (made_long _ _ _ _ p.2 e)))
