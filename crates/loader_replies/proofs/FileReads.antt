@@ -5,7 +5,6 @@ use Rattle.omf_io.specs.Counts.{one_more, saturating_sum}
 use Rattle.omf_io.specs.Files.{FileMap, StoreSeen, IsUnread}
 use Rattle.omf_base.specs.declared.line.LineFault.{LineFault}
 use Rattle.loader_machine.specs.Rule.{RoomRule}
-use Rattle.iigs_meaning.specs.Memory.{Memory}
 use Rattle.loader_machine.specs.declared.faults.LoaderFault.{LoaderFault}
 use Rattle.loader_machine.specs.declared.faults.LoaderFault.TheVariants as faults
 use Rattle.loader_machine.specs.State.{Machine}

@@ -1,5 +1,5 @@
 -- Replies and refusals other than `cannot read`.
-use Rattle.std.proofs.Common.{◌≡◌, inl, inr, ℕ, true, false, cond, ◌+◌, length, Bool, Option, Some, None, Result, Ok, Err, refl, sym, ap, ◌∙◌}
+use Rattle.std.proofs.Common.{◌≡◌, inl, inr, ℕ, true, false, cond, ◌+◌, Bool, Option, Some, None, Result, Ok, Err, refl, sym, ap, ◌∙◌}
 use Rattle.std.specs.Prelude.{◌==◌, nat_le, IfErr}
 use Rattle.std.proofs.lemmas.Option.{same_Some}
 use Rattle.omf_format.specs.Header.{is_dynamic, is_skipped}
