@@ -1,7 +1,6 @@
 use Rattle.std.proofs.Common.{ℕ, List, sym, ap, ◌∙◌}
 use Rattle.orca_meaning.specs.Line.{part}
 use Rattle.orca_text.specs.DecodedView.{decoded_line}
-use Rattle.asm_meaning.specs.Operations.{operation_of}
 use Rattle.asm_meaning.specs.Statement.{label_of, is_misplaced}
 use Rattle.orca_operands.proofs.After.{then_if}
 use Rattle.orca_object.proofs.StepLaws.{placed_step}
