@@ -24,11 +24,12 @@ demo: build
 lib:
 	tools/lib
 
+# Where root installs, python leaves nothing of root's in the tree.
 install:
-	DESTDIR='$(DESTDIR)' tools/install '$(PREFIX)'
+	DESTDIR='$(DESTDIR)' PYTHONDONTWRITEBYTECODE=1 tools/install '$(PREFIX)'
 
 uninstall:
-	DESTDIR='$(DESTDIR)' tools/install --remove '$(PREFIX)'
+	DESTDIR='$(DESTDIR)' PYTHONDONTWRITEBYTECODE=1 tools/install --remove '$(PREFIX)'
 
 dist:
 	tools/dist

@@ -1,10 +1,8 @@
 """What is installed, and where below a prefix: the one table of which `tools/install`, `tools/dist` and their checks are made."""
-import ast
+import ast, re
 
 from common import BUILD, PROGRAM, PROGRAMS, TOP, version
 
-# The tools for users: tools/NAME is installed as omf-NAME, with the modules that it imports.
-TOOLS = ("explain", "depends", "compare", "headers")
 SHARED, DOCUMENTS = "share/omf", "share/doc/omf"
 # Whole folders and patterns of the tree: the folder below the prefix, the folder of the tree, and the files there.
 COPIED = (
@@ -79,13 +77,25 @@ def imported(path, folder):
     return found
 
 
+def tool_names(tree):
+    """The tools for users: each tools/NAME with a manual man/omf-NAME.1 is installed as omf-NAME."""
+    names = [path.stem.removeprefix("omf-") for path in sorted((tree / "man").glob("omf-*.1"))]
+    return [name for name in names if (tree / "tools" / name).exists()]
+
+
+def as_installed(text, names, ending=""):
+    """A text in which tools have the names under which they are installed."""
+    return re.sub(rf"\btools/({'|'.join(names)})\b", rf"omf-\1{ending}", text)
+
+
 def tools(tree, shared, ending=""):
     """The tools, the modules that they import, and what starts them, whose names end so."""
-    folder = tree / "tools"
-    paths = [folder / tool for tool in TOOLS]
+    folder, names = tree / "tools", tool_names(tree)
+    paths = [folder / tool for tool in names]
     for path in sorted({*paths, *(module for path in paths for module in imported(path, folder))}):
-        yield Item(f"{shared}/tools/{path.name}", path, runs=path in paths)
-    for tool in TOOLS:
+        text = as_installed(path.read_text(encoding="utf-8"), names, ending)
+        yield Item(f"{shared}/tools/{path.name}", text=text, runs=path in paths)
+    for tool in names:
         text = STARTER.format(tool=tool, program=PROGRAM + ending, shared=shared)
         yield Item(f"bin/omf-{tool}{ending}", text=text, runs=True)
 
@@ -93,7 +103,7 @@ def tools(tree, shared, ending=""):
 def completions(tree):
     """That of bash, which is looked for under the name of each command."""
     yield Item(f"{COMPLETED}/{PROGRAM}", tree / "completions" / "omf.bash")
-    for name in (*PROGRAMS[1:], *(f"omf-{tool}" for tool in TOOLS)):
+    for name in (*PROGRAMS[1:], *(f"omf-{tool}" for tool in tool_names(tree))):
         yield Item(f"{COMPLETED}/{name}", link=PROGRAM)
 
 

@@ -3,7 +3,7 @@ caller of the library for C. What can't be tried on this machine is said."""
 import difflib, os, pathlib, shlex, shutil, subprocess, tempfile
 
 from common import say
-from layout import COMPLETED, DOCUMENTS
+from layout import COMPLETED, DOCUMENTS, as_installed
 
 # The files of an example with lines of arguments, those with what is printed, and the program that gets the arguments.
 RUNS = (
@@ -12,11 +12,13 @@ RUNS = (
     ("map", "mapped", "omf_map"),
     ("expand", "expanded", "omf_expand"),
 )
+# Lines of the shell, which finds the programs on the path, and what is printed.
+STEPS = ("steps", "stepped")
 
 
 def environment(**more):
     """What a program finds that wasn't told where it lies."""
-    return {**{name: text for name, text in os.environ.items() if name not in ("OMF", "MANPATH")}, **more}
+    return {**{name: text for name, text in os.environ.items() if name not in ("OMF", "MANPATH", "MAKEFLAGS", "MFLAGS", "MAKELEVEL")}, **more}
 
 
 # Arguments and what is printed may be bytes that are no text.
@@ -28,24 +30,30 @@ def text_of(path):
 
 
 def run(*command, **how):
-    how = {"env": environment(), **how}
-    return subprocess.run([str(word) for word in command], capture_output=True, encoding="utf-8", errors=ANY_BYTES, **how)
+    how = {"env": environment(), "stdout": subprocess.PIPE, "stderr": subprocess.PIPE, **how}
+    return subprocess.run([str(word) for word in command], encoding="utf-8", errors=ANY_BYTES, **how)
 
 
-def printed(program, lines, room):
-    """What a program prints for each line of arguments, as examples store it."""
-    for words in text_of(lines).removesuffix("\n").split("\n"):
-        ran = run(program, *words.split(), cwd=room)
-        yield f"$ {words}\n{ran.stdout}{ran.stderr}status {ran.returncode}\n"
+def lines_of(path):
+    """The lines of a file, of which the last may have no end; an empty file has none."""
+    *whole, rest = text_of(path).split("\n")
+    return [*whole, rest] if rest else whole
 
 
-def stepped(lines, room, programs):
-    """What the shell prints for each line, as examples store it; the programs are on the path."""
-    how = {name: text for name, text in environment().items() if name not in ("MAKEFLAGS", "MFLAGS", "MAKELEVEL")}
-    how.update(PATH=f"{programs}:{os.environ['PATH']}", LC_ALL="C")
-    for line in text_of(lines).splitlines():
-        ran = run("sh", "-c", line, cwd=room, env=how)
-        yield f"$ {line}\n{ran.stdout}{ran.stderr}status {ran.returncode}\n"
+def printed(call, lines):
+    """What is printed where each line is called, as examples store it."""
+    for words in lines_of(lines):
+        ran = call(words)
+        yield f"$ {words}\n{ran.stdout}status {ran.returncode}\n"
+
+
+def calls(programs, room):
+    """Of each kind of lines the file with what is printed, and the call of a line."""
+    how = {"cwd": room, "stderr": subprocess.STDOUT, "stdin": subprocess.DEVNULL}
+    for lines, wanted, program in RUNS:
+        yield lines, wanted, lambda words, program=program: run(programs / program, *words.split(), **how)
+    found = environment(PATH=f"{programs}:{os.environ['PATH']}", LC_ALL="C")
+    yield *STEPS, lambda words: run("sh", "-c", words, env=found, **how)
 
 
 def missing(example):
@@ -54,27 +62,20 @@ def missing(example):
     return [name for name in text_of(needs).split() if not shutil.which(name)] if needs.exists() else []
 
 
-def outputs(example, programs, room):
-    """What each part of an example prints, with the name of the file that has it."""
-    for lines, wanted, program in RUNS:
-        if (example / lines).exists():
-            yield wanted, "".join(printed(programs / program, example / lines, room))
-    if (example / "steps").exists():
-        yield "stepped", "".join(stepped(example / "steps", room, programs))
-
-
 def faults_of_example(example, programs):
     if missing(example):
-        say(f"The example {example.name} isn't run: there is no {' and no '.join(missing(example))}.")
+        say(f"The example {example.name} isn't run: there is no {', no '.join(missing(example))}.")
         return
+    tools = [path.name.removeprefix("omf-") for path in programs.glob("omf-*")]
     with tempfile.TemporaryDirectory(prefix="omf-trial-") as room:
         if (example / "input").is_dir():
             shutil.copytree(example / "input", room, dirs_exist_ok=True)
-        for wanted, told in outputs(example, programs, room):
-            known = text_of(example / wanted)
-            if told != known:
-                differences = list(difflib.unified_diff(known.splitlines(), told.splitlines(), wanted, "printed", lineterm=""))
-                yield f"the example {example.name}:\n" + "\n".join(differences[:40])
+        for lines, wanted, call in calls(programs, room):
+            if (example / lines).exists():
+                told, known = "".join(printed(call, example / lines)), as_installed(text_of(example / wanted), tools)
+                if told != known:
+                    differences = list(difflib.unified_diff(known.splitlines(), told.splitlines(), wanted, "printed", lineterm=""))
+                    yield f"the example {example.name}:\n" + "\n".join(differences[:40])
         for path in sorted((example / "files").glob("*")):
             made = pathlib.Path(room, path.name)
             if path.is_file() and (not made.exists() or made.read_bytes() != path.read_bytes()):
