@@ -1,0 +1,254 @@
+"""What is to be done about a fault of a file of segments, by the record that has it and by what the other files hold."""
+import os, pathlib, re
+
+import kinds
+from forms import FORMS
+from kinds import EITHER, LIBRARY, LOAD, OBJECT, RUNTIME, kind_of
+from listings import definitions, formula, names_of
+from segments import TYPES, Segment, number, segments
+from source_advice import MOST_BYTES, MOST_FILES, Advice, near, one_of
+
+LINKS = ("link", "rtl", "linkrt", "omf_map")
+PUBLIC = ("SEGNAME", "GLOBAL", "GEQU")
+# The opcodes of the modes with two bytes of address whose mnemonic has a mode with three.
+LONG = {0x0D: "ORA", 0x2D: "AND", 0x4D: "EOR", 0x6D: "ADC", 0x8D: "STA", 0xAD: "LDA", 0xCD: "CMP", 0xED: "SBC"}
+LONG_X = {opcode + 0x10: name for opcode, name in LONG.items()}
+JUMPS = {0x20: "JSL", 0x4C: "JML"}
+REACH = {1: (-128, 127), 2: (-32768, 32767)}
+
+
+class Fault:
+    """A fault of a file: how the program is run, the command and its files, the number of the file among these, the cause, the name that
+    it reports, and the place with the listing of its segment where it has one."""
+
+    def __init__(self, omf, command, words, files, file, cause, name, segment, place, listing):
+        self.omf, self.command, self.words, self.files, self.file = omf, command, words, files, file
+        self.cause, self.name, self.segment, self.place, self.listing = cause, name, segment, place, listing
+        self.path = files[file]
+        self.data = pathlib.Path(self.path).read_bytes()
+
+    def record(self):
+        """The kind and the fields of the record at the place; None where none is there."""
+        line = self.listing and self.listing.line(self.place)
+        return line.split(" ")[1:] if line else None
+
+    def names(self):
+        """The names in the record's expression, and the expression itself."""
+        record = self.record()
+        data = bytes.fromhex(record[-1])
+        length = self.header().field("LABLEN")
+        return names_of(data, length), formula(data, length)
+
+    def header(self):
+        return list(segments(self.data))[self.segment - 1]
+
+
+# ---- what the file is
+
+
+def wrong_kind(fault):
+    """Where the file isn't of the kind that the command takes."""
+    path, kind = fault.path, kind_of(fault.omf, fault.path)
+    if kind == kinds.TEXT and re.search(rb"(?mi)^banks ", fault.data):
+        yield Advice(f"{path} is a text, perhaps a script: `run` takes it")
+    if kind == kinds.TEXT:
+        stem = re.sub(r"(?<=[^/])\.[^./]*$", "", path)
+        yield Advice(f"{path} is a text: where it is a source, assemble it first by `asm {path} {stem}.o`, and give {stem}.o")
+    if kinds.envelope(fault.data):
+        yield Advice(f"{path} is {kind}: take the file out of it first; `docs/MOVING.md`, \"Envelopes\", says how")
+    if fault.command in LINKS and kind == RUNTIME:
+        yield Advice(f"{path} is a run-time library file: `{with_runtime(fault)}` links with it")
+    if fault.command in (*LINKS, "lib") and kind == LOAD:
+        yield Advice(f"{path} is a load file, so it is linked already: give the objects of which it was made")
+    if fault.command == "lib" and kind == LIBRARY:
+        yield Advice(f"{path} is a library already: give its objects, or give both libraries to `link`")
+    if fault.command == "compact" and kind in (OBJECT, EITHER, LIBRARY):
+        yield Advice(f"{path} is {kind}: link it first, and give the load file")
+    if fault.command == "list" and kind in (LOAD, RUNTIME):
+        yield Advice(f"{path} is {kind}: give the object of which it was made; `dump` lists this one")
+
+
+def with_runtime(fault):
+    """The call of linkrt with the run-time library files at the end."""
+    runtime = [path for path in fault.files if kind_of(fault.omf, path) == RUNTIME]
+    others = [path for path in fault.files if path not in runtime]
+    out = fault.words[0] if fault.command != "omf_map" else "OUT"
+    return " ".join(["linkrt", out, str(len(runtime)), *(others or ["FILE.."]), *runtime])
+
+
+def bad_runtime(fault):
+    count = sum(kind_of(fault.omf, path) == RUNTIME for path in fault.files)
+    kind = kind_of(fault.omf, fault.path)
+    if count:
+        yield Advice(f"{fault.path} is {kind}, and K says that the last {fault.words[1]} of the files are run-time library files: write `{with_runtime(fault)}`")
+    yield Advice(f"{fault.path} is {kind}, and none of the files is a run-time library file: `rtl` makes one of objects whose segments have KIND $8000")
+
+
+def bad_header(fault):
+    """Which field of the header is at fault, and what it has to be."""
+    yield from wrong_kind(fault)
+    header = fault.header().fault()
+    if header and header.field:
+        at, size = fault.header().span(header.field)
+        value = number(fault.data, fault.header().start + at, size)
+        zeros = not any(fault.data[fault.header().start :])
+        if zeros and fault.segment > 1:
+            rest = fault.header().start
+            yield Advice(f"after its last segment the file has {len(fault.data) - rest} zeros: `head -c {rest} {fault.path} >new` cuts them off")
+        yield Advice(f"{header.field} of the segment's header is ${value:0{2 * size}X}: {header.check}; make the file anew, or fetch it as bytes")
+    if header:
+        yield Advice(f"{header.check}: the file was cut, or changed by a copy as a text: make or fetch it anew")
+    code = fault.data[fault.place : fault.place + 1]
+    if not header and fault.cause == "Unsupported":
+        kind = fault.header().kind() & 0x1F
+        if fault.place == fault.header().start and fault.header().name().lower() in (b"expressload", b"~expressload"):
+            yield Advice("the load file is expressed: `docs/MOVING.md` says how the segment ExpressLoad is cut off")
+        if kind in kinds.TABLES and fault.command in LINKS:
+            yield Advice(f"the segment is of the type {TYPES[kind]}, which load files have: give the objects of which this file was made")
+        if code:
+            yield Advice(f"there is the record code ${code[0]:02X}, or what it holds is none of the format: another program made it; make it anew from its source", is_sure=False)
+
+
+# ---- names
+
+
+def sources_of_names(fault, beside=True):
+    """What each of the files defines, and then what those beside them do: each name with its kind, file, segment and privacy."""
+    given = [os.path.realpath(path) for path in fault.files]
+    others = sorted(pathlib.Path(fault.path).parent.iterdir(), key=lambda it: it.name)[:MOST_FILES] if beside else []
+    for path in [*fault.files, *map(str, others)]:
+        is_given = path in fault.files
+        if not is_given and (not os.path.isfile(path) or os.path.realpath(path) in given or os.path.getsize(path) > MOST_BYTES):
+            continue
+        if not is_given and kind_of(fault.omf, path) not in (OBJECT, LIBRARY, EITHER, RUNTIME):
+            continue
+        yield from ((is_given, path, it) for it in definitions(fault.omf, path))
+
+
+def unresolved(fault):
+    name, record = fault.name, fault.record()
+    found = list(sources_of_names(fault))
+    named = [(is_given, path, it) for is_given, path, it in found if it.name == name]
+    by_using = record and record[0] == "USING"
+    if by_using and any(it.kind == "SEGNAME" and not it.is_data for _, _, it in named):
+        yield Advice(f"{name} is a segment of code, and USING takes one of DATA: leave USING out, and make the labels that are meant ENTRY")
+    for is_given, path, it in named:
+        if not is_given and kind_of(fault.omf, path) == RUNTIME and it.kind == "ENTRY":
+            rest = " ".join([*fault.files, path])
+            yield Advice(f"{path}, a run-time library file, has it: `linkrt {fault.words[0] if fault.words else 'OUT'} 1 {rest}`")
+        elif not is_given and it.kind in PUBLIC and not it.is_private:
+            yield Advice(f"{path} defines it, and isn't among the arguments: `{fault.command} {' '.join([*fault.words, path])}`")
+    for is_given, path, it in named:
+        where = f"{path}, segment {it.segment},"
+        if is_given and it.is_private and path != fault.path:
+            yield Advice(f"{where} has it, but for its own file alone: make it public, by START in the place of PRIVATE, or DATA in the place of PRIVDATA")
+        if is_given and it.kind in ("LOCAL", "EQU") and it.is_data:
+            yield Advice(f"{name} is a label of the data segment {it.segment}: write ` USING {it.segment}` in the segment that uses it, {fault.listing.name if fault.listing else 'here'}")
+        if is_given and it.kind == "LOCAL":
+            yield Advice(f"{where} has it as a label that is seen in that segment alone: write `{name} ENTRY` on a line before it there")
+        if is_given and it.kind == "EQU":
+            yield Advice(f"{where} has it as an EQU, which is seen in that segment alone: write it as GEQU")
+    for _, path, it in found:
+        if it.name.upper() == name.upper() and it.name != name:
+            yield Advice(f"{path} has `{it.name}`: names are compared byte by byte, and `asm` writes them in capitals")
+    guess = near(name, [it.name for is_given, _, it in found if is_given and it.kind != "ENTRY"])
+    if guess:
+        yield Advice(f"perhaps {one_of(guess)} is meant", is_sure=False)
+
+
+def duplicate(fault):
+    record = fault.record()
+    names = [record[1]] if record and record[0] in ("USING", "STRONG") else fault.names()[0] if record else []
+    name = fault.name or (names[0] if names else None)
+    there = [(path, it) for is_given, path, it in sources_of_names(fault, beside=False) if it.name == name and it.kind in PUBLIC]
+    there = [f"{path}, segment {it.segment or 'without a name'}" for path, it in there]
+    if len(there) > 1:
+        yield Advice(f"{name} is in {' and in '.join(dict.fromkeys(there))}: leave one of these files out, rename one of the names, or make one PRIVATE")
+
+
+# ---- values
+
+
+def does_not_fit(fault):
+    record = fault.record()
+    if not record:
+        return
+    names, text = fault.names()
+    case = {"RELEXPR": branch, "BEXPR": address, "ZEXPR": one_byte, "EXPR": bytes_alone, "LEXPR": bytes_alone}.get(record[0])
+    if case:
+        yield from case(fault, int(record[1], 16), names, text)
+
+
+def where_is(fault, name):
+    """The definition of a name that the record's own segment has, or else those of the other files."""
+    own = fault.listing.offsets().get(name)
+    others = [it for _, _, it in sources_of_names(fault, beside=False) if it.name == name]
+    return own, others
+
+
+def load_name(fault):
+    return fault.header().load_name().rstrip()
+
+
+def branch(fault, count, names, text):
+    own, others = where_is(fault, names[0]) if names else (None, [])
+    longer = "BRL, or JMP" if count == 1 else "JML"
+    if own is not None:
+        distance = own - fault.listing.offset_of(fault.place) - count
+        if text == names[0]:
+            least, most = REACH[count]
+            around = "; a condition branches around it: BEQ there becomes BNE over a JMP" if count == 1 else ""
+            yield Advice(f"{names[0]} is {distance:+,} bytes away, and this branch goes {least:,} to {most:,}: write {longer}{around}")
+    elif any(it.load_name != load_name(fault) for it in others):
+        yield Advice(f"{names[0]} is in another load segment, and a branch stays in its own: write `JML {names[0]}`, or give both segments one load name")
+    elif others:
+        yield Advice(f"{names[0]} is in another segment, too far for this branch: write {longer}")
+    elif not names:
+        yield Advice(f"a branch goes to a label, and {text} is a number: give the place a name in column 1")
+
+
+def address(fault, count, names, text):
+    opcode = fault.listing.byte_before(fault.place)
+    if "|" in text:
+        yield Advice(f"a part of an address, as in `PEA {text}`, is written by bytes: `DC I1'$F4',I2'{text}'`")
+    if not names:
+        yield Advice(f"{text} is above $FFFF: write `>` before it")
+        return
+    why = f"{names[0]} is in another load segment, which may be in another bank"
+    own, others = where_is(fault, names[0])
+    if own is not None or others and all(it.load_name == load_name(fault) for it in others):
+        why = f"all of the load segment of {names[0]} is DATA, which may go over the end of a bank"
+    share = "or give both segments one load name, after START and DATA" if why.startswith(names[0]) else "or give it the load name of a START"
+    if opcode in JUMPS:
+        yield Advice(f"{why}: write `{JUMPS[opcode]} {text}`, {share}")
+    elif opcode in LONG or opcode in LONG_X:
+        index = ",X" if opcode in LONG_X else ""
+        yield Advice(f"{why}: write `{LONG.get(opcode) or LONG_X[opcode]} >{text}{index}`, which has three bytes of address, {share}")
+    else:
+        yield Advice(f"{why}, and this instruction has no address of three bytes: {share.removeprefix('or ')}, or take LDA and STA with `>{text}`")
+
+
+def one_byte(fault, count, names, text):
+    if names:
+        yield Advice(f"`<` and the direct page take a number up to $FF, and {names[0]} is a place, or a number above it: write it without `<`, or give it a number by EQU")
+    else:
+        yield Advice(f"`<` and the direct page take a number up to $FF, and {text} is above it: write it without `<`")
+
+
+def bytes_alone(fault, count, names, text):
+    yield Advice(f"{text} isn't known before the program is loaded, or has more than {count} bytes: write it as an address, or as a DC of three or four bytes", is_sure=False)
+
+
+CASES = {
+    "BadRuntime": bad_runtime,
+    **dict.fromkeys(("Unsupported", "BadHeader", "Truncated"), bad_header),
+    **dict.fromkeys(("BadRecord", "NotLoadFile", "NotListable"), wrong_kind),
+    "Unresolved": unresolved,
+    "Duplicate": duplicate,
+    "DoesNotFit": does_not_fit,
+}
+
+
+def of_place(fault):
+    """The first advice that fits the file; None where there is none but that of the cause."""
+    return next(filter(None, CASES[fault.cause](fault)), None) if fault.cause in CASES else None
