@@ -14,6 +14,8 @@ PUBLIC = ("SEGNAME", "GLOBAL", "GEQU")
 LONG = {0x0D: "ORA", 0x2D: "AND", 0x4D: "EOR", 0x6D: "ADC", 0x8D: "STA", 0xAD: "LDA", 0xCD: "CMP", 0xED: "SBC"}
 LONG_X = {opcode + 0x10: name for opcode, name in LONG.items()}
 JUMPS = {0x20: "JSL", 0x4C: "JML"}
+# The opcodes of branches with a condition, and the mnemonics with the opposite one.
+CONDITIONS = {0x10: "BMI", 0x30: "BPL", 0x50: "BVS", 0x70: "BVC", 0x90: "BCS", 0xB0: "BCC", 0xD0: "BEQ", 0xF0: "BNE"}
 REACH = {1: (-128, 127), 2: (-32768, 32767)}
 
 
@@ -48,24 +50,35 @@ class Fault:
 
 def wrong_kind(fault):
     """Where the file isn't of the kind that the command takes."""
-    path, kind = fault.path, kind_of(fault.omf, fault.path)
-    if kind == kinds.TEXT and re.search(rb"(?mi)^banks ", fault.data):
-        yield Advice(f"{path} is a text, perhaps a script: `run` takes it")
-    if kind == kinds.TEXT:
-        stem = re.sub(r"(?<=[^/])\.[^./]*$", "", path)
-        yield Advice(f"{path} is a text: where it is a source, assemble it first by `asm {path} {stem}.o`, and give {stem}.o")
+    kind = kind_of(fault.omf, fault.path)
+    text = wrong_text(fault) if kind == kinds.TEXT else wrong_segments(fault, kind)
     if kinds.envelope(fault.data):
-        yield Advice(f"{path} is {kind}: take the file out of it first; `docs/MOVING.md`, \"Envelopes\", says how")
+        text = "take the file out of it first; `docs/MOVING.md`, \"Envelopes\", says how"
+    if text:
+        yield Advice(text, file_is=f"it is {kind}")
+
+
+def wrong_text(fault):
+    """What to do with a text."""
+    if re.search(rb"(?mi)^banks ", fault.data):
+        return "a script of the loader is run by `run`"
+    stem = re.sub(r"(?<=[^/])\.[^./]*$", "", fault.path)
+    return f"where it is a source, assemble it first by `asm {fault.path} {stem}.o`, and give {stem}.o"
+
+
+def wrong_segments(fault, kind):
+    """What to do with a file of segments of another kind; None where it is of the right one."""
     if fault.command in LINKS and kind == RUNTIME:
-        yield Advice(f"{path} is a run-time library file: `{with_runtime(fault)}` links with it")
+        return f"`{with_runtime(fault)}` links a program with it"
     if fault.command in (*LINKS, "lib") and kind == LOAD:
-        yield Advice(f"{path} is a load file, so it is linked already: give the objects of which it was made")
+        return "it is linked already: give the objects of which it was made"
     if fault.command == "lib" and kind == LIBRARY:
-        yield Advice(f"{path} is a library already: give its objects, or give both libraries to `link`")
+        return "give its objects, or give both libraries to `link`"
     if fault.command == "compact" and kind in (OBJECT, EITHER, LIBRARY):
-        yield Advice(f"{path} is {kind}: link it first, and give the load file")
+        return "link it first, and give the load file"
     if fault.command == "list" and kind in (LOAD, RUNTIME):
-        yield Advice(f"{path} is {kind}: give the object of which it was made; `dump` lists this one")
+        return "give the object of which it was made; `dump` lists this one"
+    return None
 
 
 def with_runtime(fault):
@@ -77,11 +90,12 @@ def with_runtime(fault):
 
 
 def bad_runtime(fault):
-    count = sum(kind_of(fault.omf, path) == RUNTIME for path in fault.files)
     kind = kind_of(fault.omf, fault.path)
-    if count:
-        yield Advice(f"{fault.path} is {kind}, and K says that the last {fault.words[1]} of the files are run-time library files: write `{with_runtime(fault)}`")
-    yield Advice(f"{fault.path} is {kind}, and none of the files is a run-time library file: `rtl` makes one of objects whose segments have KIND $8000")
+    if any(kind_of(fault.omf, path) == RUNTIME for path in fault.files):
+        text = f"K says that the last {fault.words[1]} of the files are run-time library files: write `{with_runtime(fault)}`"
+    else:
+        text = "none of the files is a run-time library file: `rtl` makes one, of objects whose segments have KIND $8000"
+    yield Advice(text, file_is=f"it is {kind}, and no run-time library file")
 
 
 def bad_header(fault):
@@ -122,7 +136,8 @@ def sources_of_names(fault, beside=True):
             continue
         if not is_given and kind_of(fault.omf, path) not in (OBJECT, LIBRARY, EITHER, RUNTIME):
             continue
-        yield from ((is_given, path, it) for it in definitions(fault.omf, path))
+        is_runtime = kind_of(fault.omf, path) == RUNTIME
+        yield from ((is_given, path, it) for it in definitions(fault.omf, path) if (it.kind == "ENTRY") == is_runtime)
 
 
 def unresolved(fault):
@@ -133,7 +148,7 @@ def unresolved(fault):
     if by_using and any(it.kind == "SEGNAME" and not it.is_data for _, _, it in named):
         yield Advice(f"{name} is a segment of code, and USING takes one of DATA: leave USING out, and make the labels that are meant ENTRY")
     for is_given, path, it in named:
-        if not is_given and kind_of(fault.omf, path) == RUNTIME and it.kind == "ENTRY":
+        if not is_given and it.kind == "ENTRY":
             rest = " ".join([*fault.files, path])
             yield Advice(f"{path}, a run-time library file, has it: `linkrt {fault.words[0] if fault.words else 'OUT'} 1 {rest}`")
         elif not is_given and it.kind in PUBLIC and not it.is_private:
@@ -197,8 +212,10 @@ def branch(fault, count, names, text):
         distance = own - fault.listing.offset_of(fault.place) - count
         if text == names[0]:
             least, most = REACH[count]
-            around = "; a condition branches around it: BEQ there becomes BNE over a JMP" if count == 1 else ""
-            yield Advice(f"{names[0]} is {distance:+,} bytes away, and this branch goes {least:,} to {most:,}: write {longer}{around}")
+            far = f"{abs(distance):,} bytes {'after' if distance > 0 else 'before'} the next instruction, and this branch goes {most if distance > 0 else -least:,} at most"
+            opposite = CONDITIONS.get(fault.listing.byte_before(fault.place))
+            write = f"write `{opposite} *+5` and after it `JMP {names[0]}`" if opposite and count == 1 else f"write {longer}"
+            yield Advice(f"{names[0]} is {far}: {write}")
     elif any(it.load_name != load_name(fault) for it in others):
         yield Advice(f"{names[0]} is in another load segment, and a branch stays in its own: write `JML {names[0]}`, or give both segments one load name")
     elif others:
@@ -218,7 +235,7 @@ def address(fault, count, names, text):
     own, others = where_is(fault, names[0])
     if own is not None or others and all(it.load_name == load_name(fault) for it in others):
         why = f"all of the load segment of {names[0]} is DATA, which may go over the end of a bank"
-    share = "or give both segments one load name, after START and DATA" if why.startswith(names[0]) else "or give it the load name of a START"
+    share = "or give both segments the same load name, as in `MAIN START NAME`" if why.startswith(names[0]) else "or give it the load name of a START"
     if opcode in JUMPS:
         yield Advice(f"{why}: write `{JUMPS[opcode]} {text}`, {share}")
     elif opcode in LONG or opcode in LONG_X:
@@ -252,3 +269,13 @@ CASES = {
 def of_place(fault):
     """The first advice that fits the file; None where there is none but that of the cause."""
     return next(filter(None, CASES[fault.cause](fault)), None) if fault.cause in CASES else None
+
+
+def not_loadable(omf, path):
+    """What is to be done where `run` loads a file that is no load file; None where it is one."""
+    kind = kind_of(omf, path)
+    if kind == kinds.TEXT:
+        return Advice("assemble it, link the object, and load what `link` wrote", file_is=f"it is {kind}")
+    if kind in (OBJECT, LIBRARY, EITHER):
+        return Advice("link it first, and load what `link` wrote", file_is=f"it is {kind}")
+    return None

@@ -34,10 +34,11 @@ MOST_FILES, MOST_BYTES = 100, 0x100000
 
 
 class Advice:
-    """What is to be done. Where it is sure, the general advice of the cause isn't needed besides."""
+    """What is to be done. Where it is sure, the general advice of the cause isn't needed besides. Where it says what the file is, this is
+    said in the place of what the cause means."""
 
-    def __init__(self, text, is_sure=True):
-        self.text, self.is_sure = text, is_sure
+    def __init__(self, text, is_sure=True, file_is=None):
+        self.text, self.is_sure, self.file_is = text, is_sure, file_is
 
 
 class Fault:
@@ -55,8 +56,10 @@ class Fault:
 
 
 def near(word, known):
-    """What of the known words is spelled nearly so."""
-    return difflib.get_close_matches(word.upper(), dict.fromkeys(known), n=3)
+    """What of the known words is spelled nearly so: first those of the same letters, and then those that begin so."""
+    word, known = word.upper(), list(dict.fromkeys(known))
+    found = difflib.get_close_matches(word, known, n=len(known) or 1)
+    return sorted(found, key=lambda it: (sorted(it) != sorted(word), -len(os.path.commonprefix([it, word]))))[:3]
 
 
 def one_of(words):
@@ -252,7 +255,7 @@ def bad_operand(fault):
         yield Advice(f"write this ALIGN before the START on line {start.number} too: in a segment it is at most what the segment asks for there, and a power of 2")
     if open_quote(operand):
         quote = open_quote(operand)
-        yield Advice(f"the text has no {quote} at its end: close it")
+        yield Advice(f"the text has no `{quote}` at its end: write `{operation} {operand}{quote}`, say")
     if comment and re.search(r"[#,+\-/(<>|=!^*\[]$", operand):
         joined = operand + comment.split(" ")[0]
         yield Advice(f"an operand ends at its first blank outside of quotes, so this one is {place_of(operand)}: write it without blanks, as `{joined}`")
@@ -306,7 +309,7 @@ def bad_constant(line):
     if '"' in operand and not open_quote(quoted):
         yield Advice(f"write `'` around a value: `DC {quoted}`")
     if open_quote(operand):
-        yield Advice(f"the value has no {open_quote(operand)} at its end: close it; a `'` in a text is written `''`")
+        yield Advice(f"the value has no `{open_quote(operand)}` at its end: write one; a `'` in a text is written `''`")
     if operand.endswith(",") and line.comment:
         yield Advice(f"an operand ends at its first blank outside of quotes: write no blank after the comma, as `DC {operand}{line.comment}`")
     kind = re.match(r"(?:\d+|\([^)]*\))?([A-Za-z]+\d*)", operand)
@@ -316,49 +319,64 @@ def bad_constant(line):
     if "'" not in operand:
         value = operand[len(kind[0]) :].lstrip(",") if kind and re.fullmatch(r"[IAHBCRS]\d?", kind[1].upper()) else operand
         yield Advice(f"write the value between `'`, after its type: `DC I1'{value or 5}'`")
+    if re.search(r"[IAia]\d?'[^']* ", operand):
+        yield Advice("write no blank between the numbers of a value, as in `DC I2'1,2'`")
     if re.search(r"[Bb]'[^']*[^01' ]", operand):
         yield Advice("B takes the digits 0 and 1 alone; a number is `I1'5'`")
     if re.search(r"[Hh]'[^']*[^0-9A-Fa-f' ]", operand):
         yield Advice("H takes hexadecimal digits alone, 0 to 9 and A to F, and no `$`; a text is `C'text'`")
 
 
+def forms_of(operation):
+    """The operands that a mnemonic takes, as they are written."""
+    return list(dict.fromkeys(FORMS_OF_MODES[mode] for mode in MODES.get(operation, "").split() if mode in FORMS_OF_MODES))
+
+
 def bad_mode(fault):
-    line = fault.line
-    operation, operand = line.operation, line.operand
-    modes = MODES.get(operation, "").split()
-    forms = list(dict.fromkeys(FORMS_OF_MODES[mode] for mode in modes if mode in FORMS_OF_MODES))
-    plain = operand.lstrip("#<>|!(").rstrip(")")
-    if not modes or "&" in operand:
+    operation, operand = fault.line.operation, fault.line.operand
+    forms, plain = forms_of(operation), operand.lstrip("#<>|!([").rstrip(")]")
+    forms_said = f"takes {one_of(forms)}, where e is a number, a name or a formula"
+    if "&" in operand:
+        yield Advice(f"{operation} {forms_said}; {expansion(fault)}")
         return
     if not operand:
-        yield Advice(f"{operation} needs an operand: {one_of(forms)}, where e is a number, a name or a formula")
+        yield Advice(f"{operation} needs an operand: it {forms_said}")
     if operand[0] == ">" and operation in ("JMP", "JSR"):
         yield Advice(f"write `{'JML' if operation == 'JMP' else 'JSL'} {operand[1:]}`: {operation} stays in its bank")
-    if operation in ("JMP", "JML") and operand[0] in "[(":
-        yield Advice(f"write `{'JML [' if operation == 'JMP' else 'JML ['}{operand[1:-1]}]`: a jump through an address of three bytes" if operand[0] == "[" or operation == "JML" else f"JMP takes {one_of(forms)}")
-    if operand[0] == "#" and modes == ["a"]:
+    if operation == "JMP" and operand[0] == "[" or operation == "JML" and operand[0] == "(":
+        yield Advice(f"write `JML [{plain}]`, which jumps through an address of three bytes" + (f", or `JMP ({plain})` through one of two" if operation == "JML" else ""))
+    if operand[0] == "#" and "e" in forms and MODES[operation] == "a":
         yield Advice(f"write `{operation} {operand[1:]}`: it pushes the number itself, and takes no `#`")
-    if operand[0] == "#" and "#" not in modes:
-        stores = ", and STA stores what is in the register" if operation[:2] == "ST" else ""
-        yield Advice(f"{operation} takes an address and no number after `#`{stores}: {one_of(forms)}")
+    if operand[0] == "#" and operation[:2] == "ST":
+        yield Advice(f"{operation} writes to an address, and not to a number: load the number first, by `LD{operation[2].replace('Z', 'A')} {operand}`, and write `{operation} NAME` then")
     if forms == ["#e"]:
         yield Advice(f"write `{operation} #{plain}`")
-    if modes == ["(d)"]:
+    if forms == ["(e)"]:
         yield Advice(f"write `{operation} ({plain})`")
-    if modes == ["xyc"]:
+    if forms == ["e,f"]:
         yield Advice(f"write two numbers, the bank of the source and that of the destination: `{operation} 1,2`")
-    yield Advice(f"{operation} takes {one_of(forms)}, where e is a number, a name or a formula{instead(operation, operand)}")
+    yield from other_index(operation, operand, forms)
+    long = f"; {operation} has no address of three bytes, which LDA and STA have" if operand[0] == ">" else ""
+    yield Advice(f"{operation} {forms_said}{long}")
 
 
-def instead(operation, operand):
-    """How what an index or a prefix asks for can be had."""
-    if re.match(r"\(.*\),[Xx]$", operand):
-        return "; with X it is `(e,X)`, with Y `(e),Y`"
-    if operand[:1] == ">":
-        return f"; {operation} has no address of three bytes: load it into A, which LDA and STA reach so"
-    if re.search(r",[XxYy]$", operand):
-        return "; take the other index register, or A"
-    return ""
+def other_index(operation, operand, forms):
+    """The index register that the mnemonic has in this place."""
+    inside = re.fullmatch(r"\((.*)\),[Xx]", operand)
+    if inside and "(e,X)" in forms:
+        yield Advice(f"write `{operation} ({inside[1]},X)`, or `{operation} ({inside[1]}),Y`: X is added before the address is read, and Y after it")
+    index = re.fullmatch(r"([^(\[].*),([XxYy])", operand)
+    for other in "XY":
+        if index and index[2].upper() != other and f"e,{other}" in forms:
+            yield Advice(f"write `{operation} {index[1]},{other}`: {operation} has no index register but {other}")
+    if index and "e" in forms and "e,X" not in forms and "e,Y" not in forms:
+        yield Advice(f"{operation} has no index register: it takes {one_of(forms)}")
+
+
+def expansion(fault):
+    """How a line of a macro is seen with the texts of a call."""
+    files = " ".join(source.path for source in fault.files)
+    return f"`omf_expand {files}` prints this line with the texts of each call"
 
 
 # ---- values
@@ -412,7 +430,7 @@ def immediate_that_does_not_fit(fault):
     setting = next((it for it in fault.source.before(fault.line.number) if it.operation == width), None)
     if setting and setting.operand.upper() == "OFF":
         return Advice(f"{width} is OFF since line {setting.number}, so the number has one byte, up to 255: write `{width} ON` before where the register has 16 bits, or `{operation} #<{operand[1:]}` for the low byte")
-    return Advice(f"the number has two bytes, -32,768 to 65,535: `{operation} #<{operand[1:]}` takes the low two, `{operation} #^{operand[1:]}` those from the third on")
+    return Advice(f"the number has two bytes, -32,768 to 65,535: `{operation} #<{operand[1:]}` takes the low two bytes, `{operation} #^{operand[1:]}` those from the third on")
 
 
 def too_long(fault):
@@ -527,5 +545,4 @@ def of_macro_line(fault):
     """How the line is seen with its symbols replaced, where the fault is one of its statement."""
     if not fault.file or "&" not in fault.line.text or fault.cause in EXPANDING:
         return None
-    files = " ".join(source.path for source in fault.files)
-    return Advice(f"this line is a macro's: `omf_expand {files}` prints it as it is with the texts of each call", is_sure=False)
+    return Advice(f"{expansion(fault)}, as it is assembled", is_sure=False)
