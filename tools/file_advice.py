@@ -13,6 +13,8 @@ PUBLIC = ("SEGNAME", "GLOBAL", "GEQU")
 # The opcodes of the modes with two bytes of address whose mnemonic has a mode with three.
 LONG = {0x0D: "ORA", 0x2D: "AND", 0x4D: "EOR", 0x6D: "ADC", 0x8D: "STA", 0xAD: "LDA", 0xCD: "CMP", 0xED: "SBC"}
 LONG_X = {opcode + 0x10: name for opcode, name in LONG.items()}
+# Those with Y, which have no mode with three bytes, but their mnemonics have one with X.
+WITH_Y = {opcode + 0x0C: name for opcode, name in LONG.items()}
 JUMPS = {0x20: "JSL", 0x4C: "JML"}
 # The opcodes of branches with a condition, and the mnemonics with the opposite one.
 CONDITIONS = {0x10: "BMI", 0x30: "BPL", 0x50: "BVS", 0x70: "BVC", 0x90: "BCS", 0xB0: "BCC", 0xD0: "BEQ", 0xF0: "BNE"}
@@ -101,26 +103,40 @@ def bad_runtime(fault):
 def bad_header(fault):
     """Which field of the header is at fault, and what it has to be."""
     yield from wrong_kind(fault)
-    header = fault.header().fault()
-    if header and header.field:
-        at, size = fault.header().span(header.field)
-        value = number(fault.data, fault.header().start + at, size)
-        zeros = not any(fault.data[fault.header().start :])
-        if zeros and fault.segment > 1:
-            rest = fault.header().start
-            yield Advice(f"after its last segment the file has {len(fault.data) - rest} zeros: `head -c {rest} {fault.path} >new` cuts them off")
-        yield Advice(f"{header.field} of the segment's header is ${value:0{2 * size}X}: {header.check}; make the file anew, or fetch it as bytes")
+    segment = fault.header()
+    header = segment.fault()
     if header:
-        yield Advice(f"{header.check}: the file was cut, or changed by a copy as a text: make or fetch it anew")
+        rest = fault.data[segment.start :]
+        if segment.start and not any(rest):
+            yield Advice(f"after its last segment the file has {len(rest)} zeros: `head -c {segment.start} {fault.path} >new` cuts them off")
+        said = f"{field_said(fault, segment, header)}{header.check}"
+        if fault.cause == "Truncated":
+            yield Advice(f"{said}; the file was cut, or changed by a copy as a text: make or fetch it anew")
+        yield Advice(said, is_sure=False)
+    elif fault.cause == "Unsupported":
+        yield from unsupported(fault, segment)
+
+
+def field_said(fault, segment, header):
+    """The field of a header at fault, and its value, before what it has to be; empty where the fault is of none."""
+    if not header.field:
+        return ""
+    at, size = segment.span(header.field)
+    return f"{header.field} of the segment's header is ${number(fault.data, segment.start + at, size):0{2 * size}X}: "
+
+
+def unsupported(fault, segment):
+    """Of a segment whose header has no fault by itself."""
+    kind = segment.kind() & 0x1F
+    if segment.name().lower() in (b"expressload", b"~expressload"):
+        yield Advice("the load file is expressed: `docs/MOVING.md` says how the segment ExpressLoad is cut off")
+    if kind in kinds.TABLES and fault.command in LINKS:
+        yield Advice(f"the segment is of the type {TYPES[kind]}, which load files have: give the objects of which this file was made")
+    if segment.field("ORG") >= 0x80000000 and fault.place == segment.start + segment.span("ORG")[0]:
+        yield Advice(f"ORG of the segment's header is ${segment.field('ORG'):08X}, and has to be below $80000000")
     code = fault.data[fault.place : fault.place + 1]
-    if not header and fault.cause == "Unsupported":
-        kind = fault.header().kind() & 0x1F
-        if fault.place == fault.header().start and fault.header().name().lower() in (b"expressload", b"~expressload"):
-            yield Advice("the load file is expressed: `docs/MOVING.md` says how the segment ExpressLoad is cut off")
-        if kind in kinds.TABLES and fault.command in LINKS:
-            yield Advice(f"the segment is of the type {TYPES[kind]}, which load files have: give the objects of which this file was made")
-        if code:
-            yield Advice(f"there is the record code ${code[0]:02X}, or what it holds is none of the format: another program made it; make it anew from its source", is_sure=False)
+    if code and fault.place >= segment.start + segment.field("DISPDATA"):
+        yield Advice(f"the record there begins with ${code[0]:02X}, which is no code that is read, or it is a SUPER of such a type", is_sure=False)
 
 
 # ---- names
@@ -241,6 +257,8 @@ def address(fault, count, names, text):
     elif opcode in LONG or opcode in LONG_X:
         index = ",X" if opcode in LONG_X else ""
         yield Advice(f"{why}: write `{LONG.get(opcode) or LONG_X[opcode]} >{text}{index}`, which has three bytes of address, {share}")
+    elif opcode in WITH_Y:
+        yield Advice(f"{why}: write `{WITH_Y[opcode]} >{text},X`, which has three bytes of address, with X in the place of Y, {share}")
     else:
         yield Advice(f"{why}, and this instruction has no address of three bytes: {share.removeprefix('or ')}, or take LDA and STA with `>{text}`")
 

@@ -184,7 +184,8 @@ def formula(data, label_length):
         elif code == 0x80:
             values.append("*")
         elif code in UNARY:
-            values.append(f"({OPERATORS[code]}{values.pop()})")
+            operand = values.pop()
+            values.append(f"-{operand}" if OPERATORS[code] == "-" and operand.startswith("$") else f"({OPERATORS[code]}{operand})")
         else:
             right, left = values.pop(), values.pop()
             values.append(f"({left}{OPERATORS[code]}{right})")
