@@ -18,6 +18,9 @@ ELSEWHERE = {
     **{"ENDM": "MEND", ".ENDMACRO": "MEND", "EOM": "MEND", "<<<": "MEND", "MAC": "MACRO, and a model line after it", ".MACRO": "MACRO, and a model line after it"},
     **{".A16": "LONGA ON", ".A8": "LONGA OFF", ".I16": "LONGI ON", ".I8": "LONGI OFF", ".ORG": "ORG $2000 before the START", "BYTE": "DC I1'1'", "WORD": "DC I2'1'"},
 }
+# What other assemblers have and needs no line here, and what takes the text of another file.
+LEFT_OUT = "MLOAD MDROP 65C02 REL TYP DSK SAV LNK XC LST EXP AST EXT IMPORT .IMPORT .P816 .SMART .SETCPU MACHINE".split()
+OTHER_TEXTS = "COPY APPEND PUT INCLUDE .INCLUDE".split()
 # The operands that a mnemonic takes, by its modes.
 FORMS_OF_MODES = {
     **{"A": "A", "#": "#e", "sig": "e", "d": "e", "a": "e", "al": ">e", "r": "e", "rl": "e", "d,x": "e,X", "a,x": "e,X", "al,x": ">e,X"},
@@ -126,6 +129,10 @@ def unknown_operation(fault):
         yield Advice("a comment begins with `*` or `;` in column 1; after an operand it needs no sign")
     if operation in ELSEWHERE:
         yield Advice(f"{operation} is what other assemblers have: here write `{ELSEWHERE[operation]}`; `docs/MOVING.md` has their other words")
+    if operation in LEFT_OUT:
+        yield Advice(f"leave this line out: {operation} isn't needed here; `docs/MOVING.md` has more of what other assemblers have")
+    if operation in OTHER_TEXTS:
+        yield Advice(f"there is no {operation} here: assemble each file by itself and link the objects, or put the texts together by `cat`; macro files are arguments")
     if operation[0] == ".":
         yield Advice("directives have no dot here: compare it with those in `docs/ASSEMBLER.md`; `docs/MOVING.md` has what ca65 and others spell otherwise", is_sure=False)
     glued = re.match(r"([A-Z]{2,})([^A-Z_~].*)", operation)
