@@ -64,6 +64,8 @@ def wrong_text(fault):
     """What to do with a text."""
     if re.search(rb"(?mi)^banks ", fault.data):
         return "a script of the loader is run by `run`"
+    if fault.command == "compact":
+        return "where it is a source, assemble it, link the object, and give what `link` wrote"
     stem = re.sub(r"(?<=[^/])\.[^./]*$", "", fault.path)
     return f"where it is a source, assemble it first by `asm {fault.path} {stem}.o`, and give {stem}.o"
 

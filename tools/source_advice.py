@@ -253,6 +253,12 @@ def bad_operand(fault):
         yield from bad_constant(line)
     if operation in ("LONGA", "LONGI", "MSB"):
         yield Advice(f"write `{operation} ON` or `{operation} OFF`")
+    if operation in ("MVN", "MVP") and "#" in operand:
+        yield Advice(f"write the banks without `#`: `{operation} {operand.replace('#', '')}`")
+    if operation == "DS":
+        yield Advice(f"DS takes one number, and gives as many zeros: `DC 16I1'$FF'` gives 16 bytes of another value")
+    if operation == "KIND":
+        yield Advice("the type, which is the last two digits of KIND, has to be one of the format: $00 code, $01 data, $10 initialization, $12 direct page and stack; `KIND $8000` makes code dynamic")
     if operation in SEGMENT_STARTS:
         yield Advice(f"what follows {operation} is the name of the load segment, of ten bytes at most: put a comment on a line of its own")
     start = fault.source.open_segment(line.number) if not fault.file else None
@@ -284,6 +290,8 @@ def bad_operand(fault):
         yield Advice("a shift is written `|`: `1|4` to the left, `1|-4` to the right")
     if wrong and wrong[0] == "^":
         yield Advice("`^` is written after `#` alone; in a DC the bank of a name is `DC I1'NAME|-16'`")
+    if re.search(r"[,+\-/|*]$", operand) and operand != "*":
+        yield Advice(f"the operand breaks off after `{operand[-1]}`: write what follows there, or leave it out")
     for opening, closing in ("()", "[]"):
         if operand.count(opening) > operand.count(closing):
             yield Advice(f"a `{opening}` has no `{closing}`")
@@ -328,6 +336,12 @@ def bad_constant(line):
         yield Advice(f"write the value between `'`, after its type: `DC I1'{value or 5}'`")
     if re.search(r"[IAia]\d?'[^']* ", operand):
         yield Advice("write no blank between the numbers of a value, as in `DC I2'1,2'`")
+    count = re.match(r"\d+", operand)
+    if count and not 1 <= int(count[0]) <= 65535:
+        yield Advice("a repeat count is 1 to 65,535")
+    after = re.search(r"'([^',]+)$|'([^',]+),", re.sub(r"'[^']*'", "''", operand))
+    if after:
+        yield Advice(f"after the `'` that ends a value comes a comma or nothing, and not `{after[1] or after[2]}`: a formula is written between the quotes")
     if re.search(r"[Bb]'[^']*[^01' ]", operand):
         yield Advice("B takes the digits 0 and 1 alone; a number is `I1'5'`")
     if re.search(r"[Hh]'[^']*[^0-9A-Fa-f' ]", operand):
@@ -336,7 +350,10 @@ def bad_constant(line):
 
 def forms_of(operation):
     """The operands that a mnemonic takes, as they are written."""
-    return list(dict.fromkeys(FORMS_OF_MODES[mode] for mode in MODES.get(operation, "").split() if mode in FORMS_OF_MODES))
+    modes = MODES.get(operation, "").split()
+    found = [FORMS_OF_MODES[mode] for mode in modes if mode in FORMS_OF_MODES]
+    # Of one that has no other address a plain one has three bytes.
+    return list(dict.fromkeys(found if "a" in modes else [form.lstrip(">") for form in found]))
 
 
 def bad_mode(fault):
@@ -375,9 +392,9 @@ def other_index(operation, operand, forms):
     index = re.fullmatch(r"([^(\[].*),([XxYy])", operand)
     for other in "XY":
         if index and index[2].upper() != other and f"e,{other}" in forms:
-            yield Advice(f"write `{operation} {index[1]},{other}`: {operation} has no index register but {other}")
-    if index and "e" in forms and "e,X" not in forms and "e,Y" not in forms:
-        yield Advice(f"{operation} has no index register: it takes {one_of(forms)}")
+            yield Advice(f"write `{operation} {index[1]},{other}`, with the index in {other}: {operation} takes it from {index[2].upper()} in no operand of this form")
+    if index and "e,X" not in forms and "e,Y" not in forms:
+        yield Advice(f"{operation} takes no index register: it takes {one_of(forms)}, where e is a number, a name or a formula")
 
 
 def expansion(fault):
@@ -502,6 +519,10 @@ def no_sequence_symbol(fault):
 
 
 def bad_arguments(fault):
+    if fault.line.number > 1 and fault.source.line(fault.line.number - 1).operation == "MACRO":
+        names = ",".join("&" + it.split("=")[0].lstrip("&") for it in fault.line.operand.split(",") if it)
+        yield Advice(f"this is a macro's model line: a name, and parameters that begin with `&` and have no values, as ` {fault.line.operation} {names}`; the label is `&NAME` or none")
+        return
     operands = re.split(r",(?![^(]*\))", fault.line.operand) if fault.line.operand else []
     for source, macro in fault.macros():
         if macro.name == fault.line.operation and len(operands) > len(macro.parameters):
@@ -545,7 +566,16 @@ EXPANDING = ("LineTooLong", "TooManyLines", "NoSuchSymbol", "BadSetting", "BadAr
 def of_line(fault):
     """The first advice that fits the line; None where there is none but that of the cause."""
     cases = CASES[fault.cause](fault) if fault.cause in CASES else ()
-    return strange_character(fault) or next(filter(None, cases), None) or of_macro_line(fault)
+    return strange_character(fault) or next(filter(None, cases), None) or other_character(fault) or of_macro_line(fault)
+
+
+def other_character(fault):
+    """Where a field that is at fault has a character that isn't ASCII."""
+    line = fault.line
+    found = re.search(r"[\x80-\xff]+", line.text[: len(line.text) - len(line.comment)])
+    if not found:
+        return None
+    return Advice(f"column {found.start() + 1} has ${ord(found[0][0]):02X}, a byte of a character that is no ASCII: labels, operations and numbers have none", is_sure=False)
 
 
 def of_macro_line(fault):
