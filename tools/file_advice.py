@@ -194,9 +194,9 @@ def duplicate(fault):
     names = [record[1]] if record and record[0] in ("USING", "STRONG") else fault.names()[0] if record else []
     name = fault.name or (names[0] if names else None)
     there = [(path, it) for is_given, path, it in sources_of_names(fault, beside=False) if it.name == name and it.kind in PUBLIC]
-    there = [f"{path}, segment {it.segment or 'without a name'}" for path, it in there]
+    there = [f"{path}, segment {it.number} {it.segment}".rstrip() for path, it in there]
     if len(there) > 1:
-        yield Advice(f"{name} is in {' and in '.join(dict.fromkeys(there))}: leave one of these files out, rename one of the names, or make one PRIVATE")
+        yield Advice(f"{name} is in {', and in '.join(there)}: leave one of these files out, rename one of the names, or make one PRIVATE")
 
 
 # ---- values

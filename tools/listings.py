@@ -127,6 +127,7 @@ class Definition:
 
     def __init__(self, name, kind, segment, is_private):
         self.name, self.kind, self.segment, self.is_private = name, kind, segment.name().decode("latin-1"), is_private
+        self.number = segment.place
         self.is_data, self.load_name = segment.kind() & 0x1F == DATA, segment.load_name().rstrip()
 
 

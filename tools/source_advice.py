@@ -465,7 +465,7 @@ def too_long(fault):
 
 def line_too_long(fault):
     size, count = len(fault.line.text), len(fault.source.lines)
-    if size > 255 and count <= 2:
+    if size > 1000 and count <= 2:
         yield Advice(f"the file is one line of {size} bytes: it has no ends of lines, so it was damaged, or is no source")
     if size > 255:
         yield Advice(f"the line has {size} bytes: divide it; a DC can go on in another DC")
@@ -526,8 +526,8 @@ def bad_arguments(fault):
     operands = re.split(r",(?![^(]*\))", fault.line.operand) if fault.line.operand else []
     for source, macro in fault.macros():
         if macro.name == fault.line.operation and len(operands) > len(macro.parameters):
-            takes = f"takes {len(macro.parameters)} operands at most, {', '.join(macro.parameters)}" if macro.parameters else "takes no operand"
-            yield Advice(f"{macro.name} ({source.path}:{macro.number}) {takes}, and this call has {len(operands)}: what follows the macro's name is its operand, so put a comment on a line of its own")
+            takes = f"has the parameters {', '.join(macro.parameters)}" if macro.parameters else "has no parameter"
+            yield Advice(f"{macro.name} ({source.path}:{macro.number}) {takes}, and this call more operands: what follows the macro's name is its operand, so put a comment on a line of its own")
 
 
 def bad_setting(fault):
