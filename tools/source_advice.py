@@ -392,7 +392,7 @@ def other_index(operation, operand, forms):
     index = re.fullmatch(r"([^(\[].*),([XxYy])", operand)
     for other in "XY":
         if index and index[2].upper() != other and f"e,{other}" in forms:
-            yield Advice(f"write `{operation} {index[1]},{other}`, with the index in {other}: {operation} takes it from {index[2].upper()} in no operand of this form")
+            yield Advice(f"write `{operation} {index[1]},{other}`, with the index in {other}: here {operation} takes none from {index[2].upper()}")
     if index and "e,X" not in forms and "e,Y" not in forms:
         yield Advice(f"{operation} takes no index register: it takes {one_of(forms)}, where e is a number, a name or a formula")
 
