@@ -148,12 +148,18 @@ def macro_elsewhere(fault):
     for macro in fault.source.macros():
         if macro.name == name and macro.number > fault.line.number and not fault.file:
             return Advice(f"{name} is a macro that is defined on line {macro.number}, after this call: put its definition before the first call")
-    files = [path for path in files_beside(fault) if name in [macro.name for macro in SourceFile(path).macros()]]
+    files = [path for path in files_beside(fault) if defines(path, name)]
     if not files:
         return None
     words = " ".join([*fault.words, files[0]])
     others = f" (there is one in {one_of(files[1:3])} too)" if files[1:] else ""
     return Advice(f"{name} is a macro of the file `{files[0]}`, which isn't among the arguments{others}: `{fault.command} {words}`")
+
+
+def defines(path, name):
+    """Whether a file has a definition of this name; most files don't even have the word."""
+    has_word = name.encode("latin-1") in pathlib.Path(path).read_bytes().upper()
+    return has_word and name in [macro.name for macro in SourceFile(path).macros()]
 
 
 def files_beside(fault):
