@@ -34,41 +34,37 @@ _omf_word() {
     lib:1 | link:1 | rtl:1 | linkrt:1 | compact:2) _omf_files "$3" '*' ;;
     lib:* | link:* | rtl:*) _omf_files "$3" '*.o' '*.lib' '*lib*' ;;
     linkrt:*) _omf_files "$3" '*' ;;
+    omf_map:*) _omf_files "$3" '*.o' '*.lib' '*lib*' ;;
+    omf_expand:1) _omf_files "$3" '*.s' '*.asm' ;;
+    omf_expand:*) _omf_files "$3" '*macros*' '*.mac' ;;
     stress:* | dump:* | compact:* | run:* | list:*) COMPREPLY=() ;;
     esac
 }
 
 # The name of the object of the source that was given: main.s makes main.o.
 _omf_object() {
-    local source=${COMP_WORDS[2]}
+    local source=${COMP_WORDS[COMP_CWORD - 1]}
     printf '%s.o\n' "${source%.*}"
 }
 
 _omf() {
     # made: words of the shell
-    local commands="asm lib link rtl linkrt dump compact run list stress" explained="asm lib link rtl linkrt dump compact run list"
+    local commands="asm lib link rtl linkrt dump compact run list stress" explained="asm lib link rtl linkrt dump compact run list omf_map omf_expand"
     # end
-    local word=${COMP_WORDS[COMP_CWORD]}
-    [ "${COMP_WORDS[0]##*/}" = omf-explain ] && commands=$explained
-    if [ "$COMP_CWORD" -eq 1 ]; then
+    local word=${COMP_WORDS[COMP_CWORD]} first=1
+    [ "${COMP_WORDS[0]##*/}" = omf-explain ] && commands="$explained --all"
+    # All faults are those of sources.
+    [ "${COMP_WORDS[1]}" = --all ] && [ "$COMP_CWORD" -gt 1 ] && first=2 commands="asm omf_expand"
+    if [ "$COMP_CWORD" -eq "$first" ]; then
         mapfile -t COMPREPLY < <(compgen -W "$commands" -- "$word")
     else
-        _omf_word "${COMP_WORDS[1]}" $((COMP_CWORD - 1)) "$word"
+        _omf_word "${COMP_WORDS[first]}" $((COMP_CWORD - first)) "$word"
     fi
 }
 
-_omf_map() {
-    _omf_files "${COMP_WORDS[COMP_CWORD]}" '*.o' '*.lib' '*lib*'
-}
+_omf_map() { _omf_word omf_map "$COMP_CWORD" "${COMP_WORDS[COMP_CWORD]}"; }
 
-_omf_expand() {
-    local word=${COMP_WORDS[COMP_CWORD]}
-    if [ "$COMP_CWORD" -eq 1 ]; then
-        _omf_files "$word" '*.s' '*.asm'
-    else
-        _omf_files "$word" '*macros*' '*.mac'
-    fi
-}
+_omf_expand() { _omf_word omf_expand "$COMP_CWORD" "${COMP_WORDS[COMP_CWORD]}"; }
 
 _omf_depends() {
     _omf_files "${COMP_WORDS[COMP_CWORD]}" '*.s' '*.asm'

@@ -42,8 +42,9 @@ def rows_of(text):
 
 
 def causes_of(row):
-    """The causes of which a row speaks: words that begin with a capital and continue with small letters."""
-    return re.findall(r"\b[A-Z][a-z]\w+", row.get("Cause") or row.get("Reply") or "")
+    """The causes of which a row speaks: words that begin with a capital and continue with small letters; and the reply that has none."""
+    said = row.get("Cause") or row.get("Reply") or ""
+    return re.findall(r"\b[A-Z][a-z]\w+", said) or re.findall(r"`(cannot \w+)`", said)
 
 
 def answers():

@@ -1,4 +1,4 @@
-"""The forms of the program's commands: which of their arguments are paths of inputs, and which is that of the output."""
+"""The forms of the program's commands, and of the two programs beside it: which arguments are paths of inputs, and which is the output's."""
 
 # The arguments of each command.
 FORMS = {
@@ -11,6 +11,8 @@ FORMS = {
     "compact": "IN OUT",
     "list": "OBJ SRC",
     "run": "SCRIPT",
+    "omf_map": "FILE..",
+    "omf_expand": "SRC MACROS..",
 }
 
 
@@ -20,6 +22,8 @@ def inputs(command, words):
         return [words[0], *words[2:]]
     if command in ("lib", "link", "rtl"):
         return words[1:]
+    if command in ("omf_map", "omf_expand"):
+        return words
     return words[2:] if command == "linkrt" else words[:1]
 
 
@@ -30,9 +34,15 @@ def output(command, words):
     return words[1] if command in ("asm", "compact", "list") else None
 
 
-def has_form(command, words):
-    """Whether a command can have this many arguments."""
+def bounds(command):
+    """How many arguments a command takes at least and at most; none at most where only the program knows."""
     names = FORMS[command].split()
     if not names[-1].endswith(".."):
-        return len(words) == len(names)
-    return len(words) >= len(names) - (command == "asm")
+        return len(names), len(names)
+    return len(names) - names[-1].startswith("MACROS"), None
+
+
+def has_form(command, words):
+    """Whether a command can have this many arguments."""
+    least, most = bounds(command)
+    return least <= len(words) <= (most or len(words))

@@ -96,3 +96,16 @@ def program(name=PROGRAM):
         build(name, mark)
         say(f"{clock}  built to {os.path.relpath(made)}")
     return made
+
+
+def chosen(name=PROGRAM):
+    """The path of a program that a tool runs: `omf` at the path OMF of the environment, and the others beside it, where their names end as
+    that one does; where it isn't set the proved one, else an unproved one."""
+    given = os.environ.get("OMF")
+    if given:
+        folder, own = os.path.split(given)
+        given = os.path.join(folder, name + own.removeprefix(PROGRAM)) if name != PROGRAM else given
+        if not os.access(given, os.X_OK):
+            sys.exit(f"{given}: it is no program that can be run")
+    made = BUILD / name
+    return given or str(made if made.exists() else program(name))

@@ -1,0 +1,4 @@
+SHORT    START
+         RTL
+AGAIN    BRA   AGAIN
+         END
