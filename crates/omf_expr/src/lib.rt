@@ -20,6 +20,7 @@ pub use laws::{
     each_spells_one_tree, field_is_expression, none_begins_another, one_first_fault, term_is_read,
 };
 pub use omf_format::{ExprFault, Value, ValueFault};
+pub use operators::{apply_one, apply_two};
 pub use term::Term;
 pub use terms::Terms;
 pub use writing::{ExprPutFault, put_term};

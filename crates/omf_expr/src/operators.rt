@@ -140,7 +140,7 @@ fn number_of_two(code: u8, a: u32, b: u32) -> u32
     }
 }
 
-/// The value of an operator of one operand.
+/// The value of an operator of one operand, by its code (GS/OS Reference, appendix F, "Expressions"): a place has none.
 pub fn apply_one(code: u8, a: Value) -> Result<Value, ValueFault>
     ensures { result ≡ apply_one code a }
 {
@@ -252,7 +252,7 @@ fn place_first(
     }
 }
 
-/// The value of an operator of two operands.
+/// The value of an operator of two operands, by its code (GS/OS Reference, appendix F, "Expressions"), or why it has none.
 #[tactic(auto, unfolding(omf_format::specs::Value::apply_two))]
 pub fn apply_two(code: u8, a: Value, b: Value) -> Result<Value, ValueFault>
     ensures { result ≡ apply_two code a b }

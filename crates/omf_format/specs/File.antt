@@ -85,9 +85,10 @@ to_file_record_fault (record_faults.BadRecord at) = (cause.BadRecord, at)
 
 -- the first fault of the segment that starts there is this one: its header's, or else that of the first record at fault
 pub data HasFault (start : ℕ) (file : List ℕ) (reported : FaultAt) : Type 0 where
-  InHeader : (of : HeaderFault) → header_fault (drop start file) ≡ Some of → reported ≡ to_file_header_fault start (version_of (drop start file)) of → HasFault start file reported
-  InRecord : (f : HeaderFields) (before : List (ℕ × Record)) (reader : Reader) (of : RecordFault) → IsHeader start f file
-      → HandsOut (body_reader start f file) before reader → next_answer reader ≡ Err of → reported ≡ to_file_record_fault of → HasFault start file reported
+  InHeader : (fault : HeaderFault) → header_fault (drop start file) ≡ Some fault
+      → reported ≡ to_file_header_fault start (version_of (drop start file)) fault → HasFault start file reported
+  InRecord : (f : HeaderFields) (before : List (ℕ × Record)) (reader : Reader) (fault : RecordFault) → IsHeader start f file
+      → HandsOut (body_reader start f file) before reader → next_answer reader ≡ Err fault → reported ≡ to_file_record_fault fault → HasFault start file reported
 
 -- the first fault of a file: the segments before it are sound, and the next one has it
 pub record IsFirstFault (file : List ℕ) (fault : FileFault) : Type 0 where

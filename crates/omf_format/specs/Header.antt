@@ -114,7 +114,8 @@ alignment_of align = if align == 0 then 1 else if nat_le align 0x100 then 0x100 
 
 -- ---- the checks
 
--- the checks of a header in their order, each with the refusal where it holds; the bytes are those from the segment's start to the file's end
+-- the checks of a header in their order: each says what must not be so, with the fault where it is so; the bytes are those from the segment's
+-- start to the file's end
 abbrev pub checks_of : HeaderFields → List ℕ → List (Bool × HeaderFault)
 checks_of f bytes =
     (nat_lt (length bytes) 44, Truncated (length bytes))
@@ -129,7 +130,7 @@ checks_of f bytes =
     ∷ (nat_lt f.length f.res_spc, BadField ResSpc)
     ∷ []
 
--- the fault of the first check that holds, if one does
+-- the fault of the first check of which what must not be so is so, if there is one
 abbrev pub first_of : {F : Type 0} → List (Bool × F) → Option F
 first_of [] = None
 first_of (check ∷ checks) = if check.0 then Some check.1 else first_of checks

@@ -40,7 +40,8 @@ IsRead held path file = (length file ≤ max_file) × (elim held [ None ↦ Unit
 abbrev pub HasRead : List ℕ → List ℕ → StoreSeen → StoreSeen → Type 0
 HasRead bytes path before now = IsRead before.held path bytes × (now ≡ after_reads 1 before)
 
--- why a read gave none, by the files and the count before it and after it
+-- a fault of a read and when it comes: by the files that are held, where a proof can speak of them, the path, and how many faults the store has
+-- counted before the read and after it
 abbrev pub HasCause : ReadFault → Option FileMap → List ℕ → ℕ → ℕ → Type 0
 HasCause read.Absent held path before now =
     IfRevealedOr held (now ≡ one_more before) (λ files. (get files path ≡ None) × (now ≡ before))
