@@ -21,7 +21,7 @@ ghost use Rattle.sys_loader.specs.Calling.{HasCall, EntersTarget};
 ghost use Rattle.sys_loader.specs.Following.{jsl_reply, LeadsTo, IsJslRefusal, HasReached, CallsEntry, entered_at, HasAsked, DidJsl};
 
 use crate::answers::Entered;
-use crate::loader::Loader;
+use crate::loader::{Hit, Loader};
 use iigs_compact_memory::CompactBanks;
 use iigs_meaning::{BlockFault, Handle};
 use jump_table::{entry_at, target_at};
@@ -95,15 +95,15 @@ impl Loader {
     }
 
     // The place to which the JSL at an offset leads.
-    fn jsl_place(&self, user: u16, segment: u16, at: u32) -> Result<Entered, LoaderFault>
-        ensures leads { IfOk result (LeadsTo self.now user segment at) }
+    fn jsl_place(&self, user: u16, segment: u16, at: u32) -> Result<Hit, LoaderFault>
+        ensures leads { IfOk result (λ hit. LeadsTo self.now user segment at hit.place) }
         ensures refused { IfErr result (IsJslRefusal self.now user segment at) }
     {
         self.recall_invariant();
         let four = self.borrow_bytes(user, segment, at, 4)?;
         let address = called_address(four)?;
-        match self.find_address(address) {
-            Some(place) => Ok(place),
+        match self.find_with_slot(address) {
+            Some(hit) => Ok(hit),
             None => Err(LoaderFault::NoTarget),
         }
     }
@@ -132,13 +132,10 @@ impl Loader {
     }
 
     // Notes in which segment a place was found: the first that the next call to that block asks.
-    fn note(&mut self, place: Entered)
+    fn note(&mut self, hit: Hit)
         ensures { self.new ≡ self.old }
     {
-        match self.banks.holder(place.address) {
-            Some(h) => self.last_hits[usize::from(h.slot % 256)] = place.segment,
-            None => {}
-        }
+        self.last_hits[usize::from(hit.slot % 256)] = hit.place.segment;
     }
 
     // Where the JSL at an offset leads.
@@ -147,9 +144,9 @@ impl Loader {
         ensures reached { IfOk result (HasReached self.old user segment at) }
         ensures refused { IfErr result (IsJslRefusal self.old user segment at) }
     {
-        let place = self.jsl_place(user, segment, at)?;
-        self.note(place);
-        self.reach_segment(place)
+        let hit = self.jsl_place(user, segment, at)?;
+        self.note(hit);
+        self.reach_segment(hit.place)
     }
 
     // The segment of an entry is made active, and entered.

@@ -59,6 +59,13 @@ fn no_users(alloc: Global, count: usize) -> Result<Vec<Option<User>>, AllocError
     Vec::with_capacity(alloc, count)
 }
 
+/// Where an address lies, and in which slot's block.
+#[derive(Clone, Copy)]
+pub(crate) struct Hit {
+    pub(crate) place: Entered,
+    pub(crate) slot: u16,
+}
+
 impl Loader {
     /// A loader of these banks, without users.
     pub fn new(alloc: Global, banks: &[u8]) -> Result<Loader, BanksFault>
@@ -223,10 +230,10 @@ impl Loader {
         self.report_segment(user, segment)
     }
 
-    // The place of an address among the users' active segments.
-    pub(crate) fn find_address(&self, address: u32) -> Option<Entered>
+    // The place of an address among the users' active segments, with the slot of the block that it is in.
+    pub(crate) fn find_with_slot(&self, address: u32) -> Option<Hit>
         ensures { MatchOption result ((id number offset : ℕ) → ¬ LiesIn self.now address id number offset)
-            (λ entered. LiesIn self.now address entered.user entered.segment entered.offset × (entered.address ≡ address)) }
+            (λ hit. LiesIn self.now address hit.place.user hit.place.segment hit.place.offset × (hit.place.address ≡ address)) }
     {
         let h = match self.banks.holder(address) {
             Some(h) => h,
@@ -241,12 +248,26 @@ impl Loader {
             self.last_hits[usize::from(h.slot % 256)],
             address,
         ) {
-            Some((segment, offset)) => Some(Entered {
-                user,
-                segment,
-                offset,
-                address,
+            Some((segment, offset)) => Some(Hit {
+                place: Entered {
+                    user,
+                    segment,
+                    offset,
+                    address,
+                },
+                slot: h.slot,
             }),
+            None => None,
+        }
+    }
+
+    // The place of an address among the users' active segments.
+    fn find_address(&self, address: u32) -> Option<Entered>
+        ensures { MatchOption result ((id number offset : ℕ) → ¬ LiesIn self.now address id number offset)
+            (λ entered. LiesIn self.now address entered.user entered.segment entered.offset × (entered.address ≡ address)) }
+    {
+        match self.find_with_slot(address) {
+            Some(hit) => Some(hit.place),
             None => None,
         }
     }

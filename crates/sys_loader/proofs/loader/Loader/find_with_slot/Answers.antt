@@ -2,7 +2,7 @@ use Rattle.std.proofs.Common.{ℕ, refl, subst}
 use Rattle.loader_agrees.specs.Agrees.{Loaded}
 use Rattle.loader_agrees.specs.Acts.{LiesIn}
 use Rattle.loader_users.proofs.Lies.{none_held, none_owned, lies_owned, short_users}
-use Rattle.sys_loader.proofs.loader.Loader.find_address.Goals as goal
+use Rattle.sys_loader.proofs.loader.Loader.find_with_slot.Goals as goal
 
 pub returns-in-None : goal.returns-in-None
 returns-in-None c = subst (λ (l : Loaded). (id number offset : ℕ) → ¬ LiesIn l c.args.address id number offset) c.self.view_is
