@@ -5,8 +5,9 @@ use Rattle.omf_io.specs.Sinks.{SinkSeen, with_text, FailsToPrint}
 use Rattle.omf_making.specs.declared.status.Status.{Status}
 use Rattle.omf_making.specs.declared.status.Status.TheVariants.{Done, CannotPrint, Memory}
 
--- A run that says a text with a status, as `says` has it, or ends without a text, done or short of memory.
--- The text is printed whole; or the first bytes of it, where the sink failed; or nothing of it, when out of memory.
+-- How a run ends. `says` tells which text is printed with which status, `done` what holds where all is done and nothing is to be printed, and
+-- `short` what holds where memory was missing before there was a text. The text is printed whole; or the first bytes of it, where the sink
+-- failed; or nothing of it, when out of memory.
 abbrev pub Ends : (Status → List ℕ → Type 0) → Type 0 → Type 0 → Status → SinkSeen → SinkSeen → Type 0
 Ends says done short CannotPrint before now = (wanted : Status) × (text : List ℕ) × says wanted text × FailsToPrint text before now
 Ends says done short Memory before now = (short ⊎ ((wanted : Status) × (text : List ℕ) × says wanted text)) × (now ≡ before)
