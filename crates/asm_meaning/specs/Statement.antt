@@ -12,7 +12,7 @@ use Rattle.omf_format.specs.Record.{Record, End, Align, Org, Space, Using, Label
 use Rattle.orca_meaning.specs.declared.mnemonics.Mnemonic.{Mnemonic}
 use Rattle.orca_meaning.specs.Characters.{folded, is_name}
 use Rattle.orca_meaning.specs.Line.{Line, part}
-use Rattle.macro_meaning.specs.Symbol.{with_name}
+use Rattle.orca_meaning.specs.Names.{with_name}
 use Rattle.orca_meaning.specs.Operand.{Meaning, IsGoodOperand, IsBadOperand, HasBadNumber}
 use Rattle.asm_meaning.specs.declared.directives.Directive.TheVariants as directives
 use Rattle.asm_meaning.specs.declared.faults.AsmCause.TheVariants.{UnknownOperation, OutsideSegment, BadLabel, BadOperand, BadNumber, Duplicate, DoesNotFit}

@@ -6,7 +6,8 @@ use Rattle.macro_meaning.specs.declared.statements.SymbolKind.TheVariants.{Text}
 use Rattle.orca_meaning.specs.Token.{Found, name_at}
 use Rattle.macro_meaning.specs.Definition.{Model}
 use Rattle.macro_meaning.specs.Pieces.{pieces}
-use Rattle.macro_meaning.specs.Symbol.{Own, Symbols, with_name, is_count}
+use Rattle.macro_meaning.specs.Symbol.{Own, Symbols, is_count}
+use Rattle.orca_meaning.specs.Names.{with_name}
 
 -- a parameter, the text that it gets, and the place of the parameter that the next operand without keyword gets
 pub record Binding : Type 0 where

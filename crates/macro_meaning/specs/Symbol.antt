@@ -19,10 +19,6 @@ Symbols = List ℕ → Option Symbol
 abbrev pub SharedTexts : Type 0
 SharedTexts = List ℕ → Option (SymbolKind × List ℕ)
 
--- these values with one more name
-abbrev pub with_name : {A : Type 0} → List ℕ → A → (List ℕ → Option A) → List ℕ → Option A
-with_name name value values asked = if bytes_eq name asked then Some value else values asked
-
 -- all that a line may name: the symbols of its expansion, the shared texts, and how many macros were called
 pub record Values : Type 0 where
   pub symbols : Symbols

@@ -10,7 +10,8 @@ use Rattle.macro_meaning.specs.Call.{no_symbols}
 use Rattle.macro_meaning.specs.Effect.{Effect, NoEffect, Emit, DeclareSymbol, SetSymbol, BranchTo, SetCounter, Exit, CallMacro, Fail, SymbolSetting, IsEffect}
 use Rattle.macro_meaning.specs.Definition.{MacroBody, MacroDefinition}
 use Rattle.macro_meaning.specs.Statements.{sequence_name}
-use Rattle.macro_meaning.specs.Symbol.{Own, Common, Symbols, SharedTexts, with_name, first_text}
+use Rattle.macro_meaning.specs.Symbol.{Own, Common, Symbols, SharedTexts, first_text}
+use Rattle.orca_meaning.specs.Names.{with_name}
 
 -- the lines of the source, and the macros
 pub record MacroProgram : Type 0 where

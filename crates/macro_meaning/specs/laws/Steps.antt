@@ -7,7 +7,8 @@ use Rattle.macro_meaning.specs.Expansion.{IsFirstFault}
 use Rattle.macro_meaning.specs.Pieces.{pieces, unquoted_text}
 use Rattle.macro_meaning.specs.Statements.{target_name, whole_match}
 use Rattle.macro_meaning.specs.Substitution.{Declared, Named, Naming, Replaced, declares, is_asked, lies_in, may_ask, naming_at, sets_label, substituted_from}
-use Rattle.macro_meaning.specs.Symbol.{Common, Own, Symbol, Symbols, Values, declaration_of, is_declaration, is_kind, kind_of, signed_decimal, text_of, with_name}
+use Rattle.macro_meaning.specs.Symbol.{Common, Own, Symbol, Symbols, Values, declaration_of, is_declaration, is_kind, kind_of, signed_decimal, text_of}
+use Rattle.orca_meaning.specs.Names.{with_name}
 use Rattle.macro_meaning.specs.Visit.{Ends, MacroProgram, Move, On, Stops, Visit, most_visits, move_of, setting_of}
 use Rattle.macro_meaning.specs.declared.faults.MacroCause.{MacroCause}
 use Rattle.macro_meaning.specs.declared.faults.MacroCause.TheVariants.{BadArguments, BadSetting, Counter, LineTooLong, Memory, NoSequenceSymbol, NoSuchSymbol, Noted, TooManyLines}
