@@ -10,6 +10,7 @@ use Rattle.asm_meaning.specs.Statement.{IsStep}
 
 -- ---- what is written
 
+-- the bytes of records one after another
 unfoldable pub records_text : List Record → List ℕ
 records_text contents = flat_map (spelling written_layout) contents
 

@@ -14,6 +14,7 @@ pub record IsReadAs (e : FinishedSegment) (s : format.Segment) : Type 0 where
   -- LENGTH is the number of cells that the linker counts
   pub cells : s.fields.length ≡ body_size s
 
+-- as many segments are read, each with what was written
 abbrev pub AreReadAs : List FinishedSegment → List format.Segment → Type 0
 AreReadAs [] [] = Unit {0}
 AreReadAs [] (s ∷ segments) = ⊥

@@ -48,6 +48,7 @@ with_missing [] symbols = symbols
 with_missing (name ∷ names) symbols =
     with_missing names (if is_some (symbols name) then symbols else with_name name (Own Text []) symbols)
 
+-- no name represents anything
 abbrev pub no_symbols : Symbols
 no_symbols name = None
 
@@ -57,6 +58,7 @@ label_bound None label = no_symbols
 label_bound (Some name) [] = no_symbols
 label_bound (Some name) (byte ∷ following) = with_name name (Own Text (byte ∷ following)) no_symbols
 
+-- the names that a call binds: the label parameter, if there is one, and the parameters
 abbrev pub all_names : Model → List (List ℕ)
 all_names model = elim model.label [ None ↦ model.parameters | Some name ↦ name ∷ model.parameters ]
 

@@ -34,6 +34,7 @@ pub record IsObject (source : List ℕ) (macros : List (List ℕ)) (object : Lis
 
 -- ---- the first fault
 
+-- the cause of an expansion's fault, by the same name
 abbrev pub cause_of : MacroCause → AsmCause
 cause_of macros.LineTooLong = LineTooLong
 cause_of macros.TooManyLines = TooManyLines

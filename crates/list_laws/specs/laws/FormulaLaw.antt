@@ -17,7 +17,7 @@ use Rattle.orca_meaning.specs.laws.Complete.{operator_levels}
 use Rattle.orca_meaning.specs.laws.Front.{expects_after}
 use Rattle.orca_meaning.specs.Token as tokens
 use Rattle.orca_meaning.specs.Token.{Operand, Here, Number, Label, Token, Value, Before, Between, Opens, Closes, Found, name_at, operator_at, token_at, expects_following, Stand}
-use Rattle.orca_meaning.specs.Formula.{sign_code, operator_code, Formula, Single, Group, Signed, Joined, level_of, IsFormula, tokens_of, tree_of, MeansAt}
+use Rattle.orca_meaning.specs.Formula.{sign_code, operator_code, Formula, Single, Group, Signed, Joined, level_of, BindsByLevel, tokens_of, tree_of, MeansAt}
 use Rattle.list_laws.specs.laws.Numbers.{HasNoDigit, number_token}
 use Rattle.list_meaning.specs.Listed.{as_operand, formula_text}
 use Rattle.list_meaning.specs.Listed as listed
@@ -241,12 +241,12 @@ level_grouped (Leaf term) = refl
 level_grouped (Unary code a) = refl
 level_grouped (Binary code a b) = refl
 
-formed_grouped : (t : Tree) (f : Formula) → IsFormula f → IsFormula (grouped t f)
+formed_grouped : (t : Tree) (f : Formula) → BindsByLevel f → BindsByLevel (grouped t f)
 formed_grouped (Leaf term) f is = is
 formed_grouped (Unary code a) f is = is
 formed_grouped (Binary code a b) f is = is
 
-formed : (t : Tree) → IsFormula (as_formula t)
+formed : (t : Tree) → BindsByLevel (as_formula t)
 formed (Leaf term) = tt
 formed (Unary code a) = (omega (arith, level_grouped a), formed_grouped a (as_formula a) (formed a))
 formed (Binary code a b) =

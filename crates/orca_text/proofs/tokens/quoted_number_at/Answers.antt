@@ -1,6 +1,6 @@
 use Rattle.std.proofs.Common.{arith, sym, ◌≤◌}
 use Rattle.orca_text.proofs.Texts.{text_found, text_bounds}
-use Rattle.orca_text.proofs.tokens.text_at.Goals as goal
+use Rattle.orca_text.proofs.tokens.quoted_number_at.Goals as goal
 
 pub returns : goal.returns
 returns c =
