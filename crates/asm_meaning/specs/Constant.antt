@@ -50,6 +50,7 @@ required_number Divided = Err DivideByZero
 
 -- ---- what is written of a formula that isn't a constant
 
+-- a name whose value is known becomes that number
 abbrev pub term_with_values : Constants → Term → Term
 term_with_values constants (Operator code) = Operator code
 term_with_values constants Location = Location

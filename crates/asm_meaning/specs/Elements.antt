@@ -34,6 +34,7 @@ pub data ElementValue : Type 0 where
   Asked : (names : List (List ℕ)) → ElementValue
   Weak : (names : List (List ℕ)) → ElementValue
 
+-- an element: its value, and how often it is repeated
 pub record Element : Type 0 where
   pub repeat : Repeat
   pub value : ElementValue
@@ -45,6 +46,7 @@ unfoldable pub bytes_of_group_digits : ℕ → ℕ → ℕ → List ℕ → List
 bytes_of_group_digits base each zero digits = []
 bytes_of_group_digits base each (suc n) digits = digits_value base (take each (digits ++ replicate each ascii.digit_0)) ∷ bytes_of_group_digits base each n (drop each digits)
 
+-- the bytes of digits without spaces, a given number of digits to a byte; none where one isn't a digit of this base
 abbrev pub packed_digits : ℕ → ℕ → List ℕ → Option (List ℕ)
 packed_digits base each [] = None
 packed_digits base each (digit ∷ digits) =
@@ -63,11 +65,12 @@ closed_at text =
     let n = position_or_len (λ byte. byte == ascii.apostrophe) text in
     if nat_lt n (length text) then Some (take n text, drop (n + 1) text) else None
 
+-- what was found, with a byte before it
 abbrev pub with_byte : ℕ → Found (List ℕ) → Found (List ℕ)
 with_byte byte None = None
 with_byte byte (Some (text, rest)) = Some (byte ∷ text, rest)
 
--- the text up to the next `'` that no other one follows; two of them are one quote of the text
+-- the text of C up to the next `'` that no other one follows, and what follows it; two of them are one quote of the text
 unfoldable pub text_at : List ℕ → Found (List ℕ)
 text_at [] = None
 text_at (byte ∷ []) = if byte == ascii.apostrophe then Some ([], []) else None
@@ -156,6 +159,7 @@ AreElements text (element ∷ next ∷ elements) =
 abbrev pub in_range : ℕ → Answer ℕ
 in_range n = if nat_le 1 n && nat_le n 65535 then Ok n else Err BadOperand
 
+-- the count that a repeat is
 abbrev pub count_of : Constants → Repeat → Answer ℕ
 count_of constants Once = Ok 1
 count_of constants (Digits n) = if nat_le (2 ^ 32) n then Err BadNumber else in_range n
@@ -166,6 +170,7 @@ abbrev pub number_piece : ℕ → Amount → Piece
 number_piece width (Known n) = Bytes (little_bytes width n)
 number_piece width (Written tree) = Whole (Formula EXPR width 0 (expression_text tree))
 
+-- what a formula gives as a number of this many bytes
 abbrev pub piece_of_number : Constants → ℕ → Tree → Answer Piece
 piece_of_number constants width tree = checked_formula tree >>= λ t. amount constants t >>= λ a. Ok (number_piece width a)
 
@@ -187,6 +192,7 @@ abbrev pub IsList : List ℕ → Option (List Element) → Type 0
 IsList text None = (elements : List Element) → AreElements text elements → ⊥
 IsList text (Some elements) = AreElements text elements
 
+-- what a list of elements gives, one after another
 abbrev pub list_pieces : Constants → Bool → Option (List Element) → Answer (List Piece)
 list_pieces constants msb None = Err BadOperand
 list_pieces constants msb (Some elements) = all_of (element_pieces constants msb) elements >>= λ found. Ok (flat_map (λ pieces. pieces) found)

@@ -9,7 +9,7 @@ use Rattle.asm_meaning.specs.declared.faults.AsmCause.TheVariants.{BadOperand, B
 use Rattle.asm_meaning.specs.Answer.{Answer}
 use Rattle.asm_meaning.specs.Constant.{Constants, known_value, required_number}
 
--- the formula that a text is, if it is one
+-- the whole text is a formula that means this expression, or it is none
 abbrev pub IsFormula : List ℕ → Option Tree → Type 0
 IsFormula text None = (tree : Tree) → MeansAt Labels text tree [] → ⊥
 IsFormula text (Some tree) = MeansAt Labels text tree []

@@ -64,6 +64,7 @@ pub data OperandKind : Type 0 where
   Banks : OperandKind
   Sign : OperandKind
 
+-- what the operand is in each mode
 unfoldable pub kind_of : Mode → OperandKind
 kind_of Implied = Missing
 kind_of Accumulator = Missing
@@ -91,10 +92,12 @@ kind_of Relative16 = Distance 2
 kind_of Move = Banks
 kind_of Signature = Sign
 
+-- an address of n bytes
 abbrev pub is_address : ℕ → OperandKind → Bool
 is_address n (Address bytes) = bytes == n
 is_address _ _ = false
 
+-- the operand is a value
 abbrev pub is_value : OperandKind → Bool
 is_value Value = true
 is_value _ = false
@@ -134,6 +137,7 @@ abbrev pub mode_of_number : Widths → Mnemonic → Prefix → ℕ → List Mode
 mode_of_number widths mnemonic prefix n modes =
     elim (find (λ mode. is_operand_of_width prefix (kind_of mode) (operand_bytes widths mnemonic mode) n) modes) [ Some mode ↦ Ok mode | None ↦ Err DoesNotFit ]
 
+-- the mode that was found, or else the first
 abbrev pub or_first : Mode → Option Mode → Mode
 or_first first None = first
 or_first first (Some found) = found
@@ -150,6 +154,7 @@ shift_in Value Greater = 8
 shift_in Value Caret = 16
 shift_in _ _ = 0
 
+-- JSL and JML, whose address has three bytes
 abbrev pub is_long_jump : Mnemonic → Bool
 is_long_jump mnemonics.Jsl = true
 is_long_jump mnemonics.Jml = true
@@ -170,6 +175,7 @@ operand_record mnemonic (Distance bytes) width tree = Formula RELEXPR width widt
 operand_record mnemonic Banks width tree = Formula EXPR width 0 (expression_text tree)
 operand_record mnemonic Sign width tree = Formula EXPR width 0 (expression_text tree)
 
+-- the operand is a distance
 abbrev pub is_distance : OperandKind → Bool
 is_distance (Distance bytes) = true
 is_distance _ = false
@@ -227,6 +233,7 @@ banks_written opcode (Known source) (Written destination) =
 banks_written opcode (Written source) destination =
     Bytes (opcode ∷ []) ∷ Whole (bank_record 1 destination) ∷ Whole (bank_record 2 (Written source)) ∷ []
 
+-- a block move: the bank of the source, and that of the destination
 abbrev pub block_move_pieces : Constants → Mnemonic → Mode → Tree → Tree → Answer (List Piece)
 block_move_pieces constants mnemonic mode source destination =
     pair_or_earlier_fault (amount constants source >>= bank) (amount constants destination >>= bank)

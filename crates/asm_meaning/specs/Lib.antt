@@ -8,7 +8,6 @@ pub mod Elements
 pub mod State
 pub mod Statement
 pub mod Object
-pub mod ObjectLaws
 pub mod ObjectFile
 pub mod LabelLaws
 pub mod laws

@@ -16,6 +16,7 @@ ignored_directives =
     codes "KEEP" ∷ codes "MCOPY" ∷ codes "LIST" ∷ codes "GEN" ∷ codes "SYMBOL" ∷ codes "EXPAND" ∷ codes "TITLE" ∷ codes "EJECT" ∷
     codes "PRINTER" ∷ codes "ABSADDR" ∷ codes "65816" ∷ []
 
+-- a directive that is accepted without effect, beside its spelling
 abbrev pub as_ignored : List ℕ → List ℕ × Directive
 as_ignored spelling = (spelling, Ignored)
 

@@ -24,6 +24,7 @@ records_after bytes [] = constant_records bytes
 records_after bytes (Bytes more ∷ pieces) = records_after (bytes ++ more) pieces
 records_after bytes (Whole content ∷ pieces) = constant_records bytes ++ content ∷ records_after [] pieces
 
+-- the records of pieces
 abbrev pub records_of : List Piece → List Record
 records_of pieces = records_after [] pieces
 

@@ -5,7 +5,7 @@ use Rattle.std.specs.Option.{option_map}
 use Rattle.omf_format.specs.Header.{HeaderFields}
 use Rattle.omf_format.specs.Record.{Record, Label}
 use Rattle.orca_meaning.specs.Line.{Line}
-use Rattle.macro_meaning.specs.Symbol.{with_name}
+use Rattle.orca_meaning.specs.Names.{with_name}
 use Rattle.asm_meaning.specs.declared.directives.Class.{Class}
 use Rattle.asm_meaning.specs.declared.directives.Class.TheVariants.{Code, PrivateCode, Data, PrivateData}
 use Rattle.asm_meaning.specs.declared.directives.Switch.{Switch}
@@ -46,9 +46,11 @@ pub record State : Type 0 where
   pub segment : Option StartedSegment
   pub ended : List FinishedSegment
 
+-- no name is a constant
 abbrev pub no_constants : Constants
 no_constants name = None
 
+-- no name is defined
 abbrev pub no_names : Names
 no_names name = None
 
@@ -78,12 +80,14 @@ kind_of PrivateCode = 0x4000
 kind_of Data = 0x0001
 kind_of PrivateData = 0x4001
 
+-- BANKSIZE of a class: code stays in one bank, and data may cross banks
 abbrev pub bank_size_of : Class → ℕ
 bank_size_of Code = 0x10000
 bank_size_of PrivateCode = 0x10000
 bank_size_of Data = 0
 bank_size_of PrivateData = 0
 
+-- the greatest LENGTH of a class
 abbrev pub greatest_length : Class → ℕ
 greatest_length Code = 0x10000
 greatest_length PrivateCode = 0x10000
@@ -153,6 +157,7 @@ with_records label value front contents s = record s { names = with_label label 
 abbrev pub with_local_record : List ℕ → ℕ → List Record → StartedSegment → StartedSegment
 with_local_record label form contents s = with_records label None (local_of label form (length_at (cells_of s) contents)) contents s
 
+-- the state with a change of its open segment
 abbrev pub in_segment : (StartedSegment → StartedSegment) → State → State
 in_segment change state = record state { segment = option_map change state.segment }
 
@@ -165,6 +170,7 @@ within_length state =
 
 -- ---- what is turned on and off
 
+-- the state with a switch turned on or off
 abbrev pub with_switch_set : Switch → Bool → State → State
 with_switch_set LongA on state = record state { widths = record state.widths { long_a = on } }
 with_switch_set LongI on state = record state { widths = record state.widths { long_i = on } }

@@ -12,7 +12,7 @@ use Rattle.omf_format.specs.Record.{Record, End, Align, Org, Space, Using, Label
 use Rattle.orca_meaning.specs.declared.mnemonics.Mnemonic.{Mnemonic}
 use Rattle.orca_meaning.specs.Characters.{folded, is_name}
 use Rattle.orca_meaning.specs.Line.{Line, part}
-use Rattle.macro_meaning.specs.Symbol.{with_name}
+use Rattle.orca_meaning.specs.Names.{with_name}
 use Rattle.orca_meaning.specs.Operand.{Meaning, IsGoodOperand, IsBadOperand, HasBadNumber}
 use Rattle.asm_meaning.specs.declared.directives.Directive.TheVariants as directives
 use Rattle.asm_meaning.specs.declared.faults.AsmCause.TheVariants.{UnknownOperation, OutsideSegment, BadLabel, BadOperand, BadNumber, Duplicate, DoesNotFit}
@@ -35,6 +35,7 @@ following_here [] = None
 following_here (byte ∷ []) = None
 following_here (byte ∷ next ∷ following) = if byte == ascii.star && next == ascii.plus then Some following else None
 
+-- the line has a label
 abbrev pub is_labelled : List ℕ → Bool
 is_labelled [] = false
 is_labelled (byte ∷ label) = true
@@ -58,6 +59,7 @@ needs_segment (Direct (directives.Turn switch)) label operand = is_labelled labe
 needs_segment (Direct directives.Nothing) label operand = is_labelled label
 needs_segment (Direct directives.Ignored) label operand = is_labelled label
 
+-- START, PRIVATE, DATA and PRIVDATA
 abbrev pub begins_segment : Operation → Bool
 begins_segment (Direct (directives.Begin class)) = true
 begins_segment _ = false
@@ -69,6 +71,7 @@ is_misplaced (Some s) operation label operand = begins_segment operation
 
 -- ---- labels
 
+-- the operations that must have a label
 abbrev pub needs_label : Operation → Bool
 needs_label (Direct (directives.Begin class)) = true
 needs_label (Direct directives.Entry) = true
@@ -76,8 +79,8 @@ needs_label (Direct directives.Equ) = true
 needs_label (Direct directives.Gequ) = true
 needs_label _ = false
 
--- Whether a label is a name that there is already: in a segment one that it defines, and outside one of the GEQUs there. The
--- name of a segment is the first that it defines.
+-- A line's label, in upper case, is defined already: in an open segment by a statement of that segment, and outside by a GEQU there.
+-- The name of a new segment isn't: it is the first that the segment defines.
 abbrev pub is_taken : State → Option StartedSegment → Operation → List ℕ → Bool
 is_taken state None operation label = if begins_segment operation then false else is_some (state.outside label)
 is_taken state (Some s) operation label = is_some (s.names label)
@@ -105,6 +108,7 @@ load_name_of (byte ∷ text) =
     if is_name (byte ∷ text) && nat_le (length (byte ∷ text)) 10
     then Ok (folded (byte ∷ text) ++ replicate (10 - length (byte ∷ text)) ascii.space) else Err BadOperand
 
+-- the name that an operand is, in upper case
 abbrev pub name_of : List ℕ → Answer (List ℕ)
 name_of text = if is_name text then Ok (folded text) else Err BadOperand
 
@@ -149,10 +153,12 @@ abbrev pub state_after_align : State → Option StartedSegment → List ℕ → 
 state_after_align state None label n = record state { align = n }
 state_after_align state (Some s) label n = in_segment (with_local_record label DIRECTIVE_LABEL (Align n ∷ [])) state
 
+-- what ORG leaves: in a segment its record, and outside a number that waits
 abbrev pub state_after_org : State → Option StartedSegment → List ℕ → ℕ → State
 state_after_org state None label n = record state { org = n }
 state_after_org state (Some s) label n = in_segment (with_local_record label DIRECTIVE_LABEL (Org n ∷ [])) state
 
+-- the segment with KIND n
 abbrev pub with_kind : ℕ → StartedSegment → StartedSegment
 with_kind n s = record s { header = record s.header { kind = n } }
 
@@ -167,6 +173,7 @@ abbrev pub with_equate : Bool → List ℕ → Amount → StartedSegment → Sta
 with_equate global label a s =
     with_records label (elim a [ Known n ↦ Some n | Written tree ↦ None ]) [] (equate global label (tree_of_amount a) ∷ []) s
 
+-- an equate of the open segment
 abbrev pub equating : State → Bool → Answer (List ℕ) → Option Tree → Answer State
 equating state global label found =
     pair_or_earlier_fault label (formula_of found >>= amount (constants_of state))
@@ -187,10 +194,12 @@ IsMove (Some s) text found = elim (following_here text) [ None ↦ found ≡ Non
 
 -- ---- what each operation does
 
+-- a statement that puts its LOCAL and its records at the end of the open segment; its operand gives the records
 abbrev pub marking : State → ℕ → Answer (List ℕ) → Answer (List Record) → Answer State
 marking state form label contents = pair_or_earlier_fault label contents >>= λ (name, found). Ok (in_segment (with_local_record name form found) state)
 
--- What a statement leaves, or its first fault, by its operation, its label and the text of its operand.
+-- What a statement leaves, or its first fault, by its operation, its label and the text of its operand: a table with a row for each
+-- operation, so it is long.
 unfoldable pub IsDone : State → Line → Operation → Answer (List ℕ) → List ℕ → Answer State → Type 0
 IsDone state line (Instruct mnemonic) label text answer =
     (operand : Answer Meaning) × IsOperandOf mnemonic text operand

@@ -6,9 +6,6 @@ pub mod InstructionLaws
 pub mod GivenLaws
 pub mod Sound
 pub mod StepSound
-pub mod LinesShort
 pub mod LabelProofs
 pub mod PlaceSums
 pub mod ObjectFileLaws
-pub mod ObjectProofs
-pub mod Unanswered

@@ -8,4 +8,4 @@ mod laws;
 
 pub use directives::{Class, Directive, Operation, Switch};
 pub use faults::{AsmCause, AsmFault};
-pub use laws::{labels_stand_at_their_places, objects_are_files, sources_have_one_object};
+pub use laws::labels_stand_at_their_places;

@@ -6,7 +6,8 @@ use Rattle.macro_meaning.specs.declared.statements.SymbolKind.TheVariants.{Text}
 use Rattle.orca_meaning.specs.Token.{Found, name_at}
 use Rattle.macro_meaning.specs.Definition.{Model}
 use Rattle.macro_meaning.specs.Pieces.{pieces}
-use Rattle.macro_meaning.specs.Symbol.{Own, Symbols, with_name, is_count}
+use Rattle.macro_meaning.specs.Symbol.{Own, Symbols, is_count}
+use Rattle.orca_meaning.specs.Names.{with_name}
 
 -- a parameter, the text that it gets, and the place of the parameter that the next operand without keyword gets
 pub record Binding : Type 0 where
@@ -47,6 +48,7 @@ with_missing [] symbols = symbols
 with_missing (name ∷ names) symbols =
     with_missing names (if is_some (symbols name) then symbols else with_name name (Own Text []) symbols)
 
+-- no name represents anything
 abbrev pub no_symbols : Symbols
 no_symbols name = None
 
@@ -56,6 +58,7 @@ label_bound None label = no_symbols
 label_bound (Some name) [] = no_symbols
 label_bound (Some name) (byte ∷ following) = with_name name (Own Text (byte ∷ following)) no_symbols
 
+-- the names that a call binds: the label parameter, if there is one, and the parameters
 abbrev pub all_names : Model → List (List ℕ)
 all_names model = elim model.label [ None ↦ model.parameters | Some name ↦ name ∷ model.parameters ]
 

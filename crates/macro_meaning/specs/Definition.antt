@@ -11,6 +11,7 @@ use Rattle.macro_meaning.specs.Statements.{whole_match, symbol_name}
 
 -- ---- the lines of a file
 
+-- the operation of a line has this spelling, in upper or lower case
 abbrev pub operation_is : List ℕ → Line → Bool
 operation_is spelling line = bytes_eq (folded (part line.text line.fields.operation)) spelling
 
@@ -78,30 +79,33 @@ pub record MacroBody : Type 0 where
   pub lines : List Line
   pub reach : ℕ
 
--- a macro: it counts in expansions that began after this line of the source, in all where that is 0
+-- a macro: it is visible to expansions that began after this line of the source, and to all where that is 0
 pub record MacroDefinition : Type 0 where
   pub model : Model
   pub visible_after : ℕ
   pub body : MacroBody
 
--- the definition with these lines between MACRO and MEND, of which the first is the model line
+-- the definition with these lines between MACRO and MEND, of which the first is the model line, and with this MEND line; it is
+-- visible to expansions that began after this line of the source
 abbrev pub definition_from : ℕ → List Line → Line → Option MacroDefinition
-definition_from following [] ends = None
-definition_from following (model ∷ inner) ends = elim (model_of model.text) [
+definition_from visible_after [] ends = None
+definition_from visible_after (model ∷ inner) ends = elim (model_of model.text) [
   | None ↦ None
-  | Some read ↦ Some (record { model = read; visible_after = following; body = record { lines = inner ++ ends ∷ []; reach = length inner } })
+  | Some read ↦ Some (record { model = read; visible_after = visible_after; body = record { lines = inner ++ ends ∷ []; reach = length inner } })
 ]
 
--- a definition counts from its line on, and in a macro file everywhere
+-- a definition in the source is visible after its MACRO line, and one in a macro file everywhere
 abbrev pub definition_of : Bool → DefinitionPart → Option MacroDefinition
 definition_of in_source (Plain line) = None
 definition_of in_source (Closed begins inner ends) = definition_from (if in_source then begins.number else 0) inner ends
 definition_of in_source (Open begins inner) = None
 
+-- a list of one or of none
 abbrev pub list_of_option : {A : Type 0} → Option A → List A
 list_of_option None = []
 list_of_option (Some a) = a ∷ []
 
+-- the definitions among the parts of a file, in order
 unfoldable pub definitions_in : Bool → List DefinitionPart → List MacroDefinition
 definitions_in in_source [] = []
 definitions_in in_source (p ∷ ps) = list_of_option (definition_of in_source p) ++ definitions_in in_source ps
@@ -112,6 +116,7 @@ source_line (Plain line) = line
 source_line (Closed begins inner ends) = begins
 source_line (Open begins inner) = begins
 
+-- the source's lines that are visited; a branch can go to each
 abbrev pub source_body : List DefinitionPart → MacroBody
 source_body ps = record { lines = map source_line ps; reach = length ps }
 
@@ -124,10 +129,12 @@ part_fault (Closed begins [] ends) = Some (ends, BadArguments)
 part_fault (Closed begins (model ∷ inner) ends) = elim (model_of model.text) [ None ↦ Some (model, BadArguments) | Some read ↦ None ]
 part_fault (Open begins inner) = Some (begins, Unclosed)
 
+-- the first, or the other where there is none
 abbrev pub or_else : {A : Type 0} → Option A → Option A → Option A
 or_else (Some a) other = Some a
 or_else None other = other
 
+-- the fault of the first part that has one
 unfoldable pub first_part_fault : List DefinitionPart → Option (Line × MacroCause)
 first_part_fault [] = None
 first_part_fault (p ∷ ps) = or_else (part_fault p) (first_part_fault ps)

@@ -20,6 +20,7 @@ use Rattle.macro_meaning.specs.Substitution.{naming_at, substituted_from}
 use Rattle.macro_meaning.specs.Symbol.{Symbols, Values, text_of, is_count, kind_of, declaration_of, is_kind, is_declaration, signed_decimal}
 use Rattle.orca_meaning.specs.Characters.{folded}
 
+-- what a line does
 pub data Effect : Type 0 where
   -- nothing
   NoEffect : Effect
@@ -49,6 +50,7 @@ pair_or_earlier_fault (Ok a) (Err cause) = Err cause
 pair_or_earlier_fault (Err cause) (Ok b) = Err cause
 pair_or_earlier_fault (Err cause) (Err other) = Err (elim cause [ BadSetting ↦ other | first ↦ first ])
 
+-- what is there, or BadSetting
 abbrev pub or_bad : {A : Type 0} → Option A → Result A MacroCause
 or_bad None = Err BadSetting
 or_bad (Some a) = Ok a
@@ -100,45 +102,46 @@ middle_from text (negsuc start) count = Err BadSetting
 
 -- `'text',s,n`: this many bytes of the text from a place on
 abbrev pub IsMiddle : Values → List ℕ → List (List ℕ) → Effect → Type 0
-IsMiddle values label (text ∷ start ∷ count ∷ []) effect_done =
+IsMiddle values label (text ∷ start ∷ count ∷ []) effect =
     (s n : Answer) × IsNumber values start s × IsNumber values count n
-    × (effect_done ≡ setting values Text label (elim (pair_or_earlier_fault (or_bad (unquoted_text text)) (pair_or_earlier_fault s n)) [
+    × (effect ≡ setting values Text label (elim (pair_or_earlier_fault (or_bad (unquoted_text text)) (pair_or_earlier_fault s n)) [
       | Ok (inside, (from, size)) ↦ middle_from inside (signed from) (signed size)
       | Err cause ↦ Err cause
     ]))
-IsMiddle values label _ effect_done = effect_done ≡ setting values Text label (Err BadSetting)
+IsMiddle values label _ effect = effect ≡ setting values Text label (Err BadSetting)
 
 -- SETA sets a signed number, SETB 0 or 1, and SETC texts in quotes, joined by plus signs
 abbrev pub IsSetting : Values → SymbolKind → List ℕ → List ℕ → Effect → Type 0
-IsSetting values Number label operand effect_done = (answer : Answer) × IsCondition values operand answer
-    × (effect_done ≡ setting values Number label (elim answer [ Ok n ↦ Ok (signed_decimal (signed n)) | Err cause ↦ Err cause ]))
-IsSetting values Flag label operand effect_done = (answer : Answer) × IsCondition values operand answer
-    × (effect_done ≡ setting values Flag label (elim answer [ Ok n ↦ Ok (if n == 0 then codes "0" else codes "1") | Err cause ↦ Err cause ]))
-IsSetting values Text label operand effect_done = effect_done ≡ setting values Text label (or_bad (joined_texts (pieces ascii.plus operand)))
+IsSetting values Number label operand effect = (answer : Answer) × IsCondition values operand answer
+    × (effect ≡ setting values Number label (elim answer [ Ok n ↦ Ok (signed_decimal (signed n)) | Err cause ↦ Err cause ]))
+IsSetting values Flag label operand effect = (answer : Answer) × IsCondition values operand answer
+    × (effect ≡ setting values Flag label (elim answer [ Ok n ↦ Ok (if n == 0 then codes "0" else codes "1") | Err cause ↦ Err cause ]))
+IsSetting values Text label operand effect = effect ≡ setting values Text label (or_bad (joined_texts (pieces ascii.plus operand)))
 
--- what a statement does, by its label and its operand, in a line with this text; ANOP gives a line for an ordinary label
+-- What a statement does, a table by statement: from what symbols represent, the line's text, its label and its operand. ANOP and
+-- MACRO give the line itself, ANOP only where it has a label.
 abbrev pub IsDone : Values → Statement → List ℕ → List ℕ → List ℕ → Effect → Type 0
-IsDone values (Declare declaration) text label operand effect_done = effect_done ≡ declaring values declaration (symbol_name operand)
-IsDone values (Set kind) text label operand effect_done = IsSetting values kind label operand effect_done
-IsDone values Middle text label operand effect_done = IsMiddle values label (pieces ascii.comma operand) effect_done
-IsDone values BranchIf text label operand effect_done = elim (pieces ascii.comma operand) [
+IsDone values (Declare declaration) text label operand effect = effect ≡ declaring values declaration (symbol_name operand)
+IsDone values (Set kind) text label operand effect = IsSetting values kind label operand effect
+IsDone values Middle text label operand effect = IsMiddle values label (pieces ascii.comma operand) effect
+IsDone values BranchIf text label operand effect = elim (pieces ascii.comma operand) [
   | condition ∷ target ∷ [] ↦ (answer : Answer) × IsCondition values condition answer
-      × (effect_done ≡ (elim (pair_or_earlier_fault answer (or_bad (target_name target))) [ Ok (n, name) ↦ if n == 0 then NoEffect else BranchTo name | Err cause ↦ Fail cause ]))
-  | _ ↦ effect_done ≡ Fail BadSetting
+      × (effect ≡ (elim (pair_or_earlier_fault answer (or_bad (target_name target))) [ Ok (n, name) ↦ if n == 0 then NoEffect else BranchTo name | Err cause ↦ Fail cause ]))
+  | _ ↦ effect ≡ Fail BadSetting
 ]
-IsDone values Branch text label operand effect_done = effect_done ≡ (elim (target_name operand) [ None ↦ Fail BadSetting | Some name ↦ BranchTo name ])
-IsDone values Count text label operand effect_done =
-    (answer : Answer) × IsNumber values operand answer × (effect_done ≡ (elim answer [ Ok n ↦ SetCounter n | Err cause ↦ Fail cause ]))
-IsDone values Nothing text label operand effect_done = effect_done ≡ (elim label [ [] ↦ NoEffect | byte ∷ following ↦ Emit text ])
-IsDone values Leave text label operand effect_done = effect_done ≡ Exit
-IsDone values Note text label operand effect_done = elim (pieces ascii.comma operand) [
-  | message ∷ severity ∷ [] ↦ (answer : Answer) × IsNumber values severity answer × (effect_done ≡ (elim (pair_or_earlier_fault (or_bad (unquoted_text message)) answer) [
+IsDone values Branch text label operand effect = effect ≡ (elim (target_name operand) [ None ↦ Fail BadSetting | Some name ↦ BranchTo name ])
+IsDone values Count text label operand effect =
+    (answer : Answer) × IsNumber values operand answer × (effect ≡ (elim answer [ Ok n ↦ SetCounter n | Err cause ↦ Fail cause ]))
+IsDone values Nothing text label operand effect = effect ≡ (elim label [ [] ↦ NoEffect | byte ∷ following ↦ Emit text ])
+IsDone values Leave text label operand effect = effect ≡ Exit
+IsDone values Note text label operand effect = elim (pieces ascii.comma operand) [
+  | message ∷ severity ∷ [] ↦ (answer : Answer) × IsNumber values severity answer × (effect ≡ (elim (pair_or_earlier_fault (or_bad (unquoted_text message)) answer) [
     | Ok (said, n) ↦ if int_le (pos 8) (signed n) then Fail (Noted n) else NoEffect
     | Err cause ↦ Fail cause
   ]))
-  | _ ↦ effect_done ≡ Fail BadSetting
+  | _ ↦ effect ≡ Fail BadSetting
 ]
-IsDone values Define text label operand effect_done = effect_done ≡ Emit text
+IsDone values Define text label operand effect = effect ≡ Emit text
 
 -- ---- calls
 
@@ -163,6 +166,7 @@ pub record SymbolSetting : Type 0 where
   pub in_source : Bool
   pub values : Values
 
+-- the statement of an operation; a line without operation is read as ANOP
 abbrev pub operation_or_anop : List ℕ → Option Statement
 operation_or_anop [] = Some Nothing
 operation_or_anop (byte ∷ following) = statement_of (byte ∷ following)
@@ -175,28 +179,29 @@ without_sequence_symbol text =
 
 -- a statement, a call of a macro, or a line that is given; a line without operation is read as ANOP
 abbrev pub IsStatement : SymbolSetting → List ℕ → LineFields → Effect → Type 0
-IsStatement s text fields effect_done = elim (operation_or_anop (part text fields.operation)) [
-  | Some statement ↦ IsDone s.values statement text (part text fields.label) (part text fields.operand) effect_done
-  | None ↦ effect_done ≡ calling_at s.definitions s.root text (first_named (folded (part text fields.operation)) s.definitions) (part text fields.label) (part text fields.operand)
+IsStatement s text fields effect = elim (operation_or_anop (part text fields.operation)) [
+  | Some statement ↦ IsDone s.values statement text (part text fields.label) (part text fields.operand) effect
+  | None ↦ effect ≡ calling_at s.definitions s.root text (first_named (folded (part text fields.operation)) s.definitions) (part text fields.label) (part text fields.operand)
 ]
 
 -- The MACRO line of a definition in the source does nothing more. What follows a sequence symbol is a line of its own.
 abbrev pub IsAfterText : SymbolSetting → Bool → List ℕ → Effect → Type 0
-IsAfterText s true text effect_done = effect_done ≡ NoEffect
-IsAfterText s false text effect_done = elim (is_comment (without_sequence_symbol text)) [
-  | true ↦ effect_done ≡ NoEffect
-  | false ↦ IsStatement s (without_sequence_symbol text) (three_fields (without_sequence_symbol text)) effect_done
+IsAfterText s true text effect = effect ≡ NoEffect
+IsAfterText s false text effect = elim (is_comment (without_sequence_symbol text)) [
+  | true ↦ effect ≡ NoEffect
+  | false ↦ IsStatement s (without_sequence_symbol text) (three_fields (without_sequence_symbol text)) effect
 ]
 
--- What a visited line does, with the symbols' texts in place; a comment does nothing.
+-- What a visited line does, by where it is: a comment does nothing; another line is read with the symbols' texts in place, where each
+-- symbol is declared and that text has at most 255 bytes.
 abbrev pub IsEffect : SymbolSetting → Line → Effect → Type 0
-IsEffect s line effect_done = elim (is_comment line.text) [
-  | true ↦ effect_done ≡ NoEffect
+IsEffect s line effect = elim (is_comment line.text) [
+  | true ↦ effect ≡ NoEffect
   | false ↦ elim (substituted_from (text_of s.values) (naming_at line.text line.fields) 0 0 line.text) [
-    | None ↦ effect_done ≡ Fail NoSuchSymbol
+    | None ↦ effect ≡ Fail NoSuchSymbol
     | Some text ↦ elim (nat_lt 255 (length text)) [
-      | true ↦ effect_done ≡ Fail LineTooLong
-      | false ↦ IsAfterText s (if s.in_source then operation_is (codes "MACRO") line else false) text effect_done
+      | true ↦ effect ≡ Fail LineTooLong
+      | false ↦ IsAfterText s (if s.in_source then operation_is (codes "MACRO") line else false) text effect
     ]
   ]
 ]

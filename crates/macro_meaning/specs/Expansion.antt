@@ -34,6 +34,7 @@ program_of source macros = record {
 
 -- ---- faults of reading, and of definitions
 
+-- the cause of a fault in a file's text
 abbrev pub cause_of : TextCause → MacroCause
 cause_of texts.LineTooLong = LineTooLong
 cause_of texts.TooManyLines = TooManyLines
@@ -52,10 +53,12 @@ file_text_fault file bytes = elim (first_line_fault 1 (lines_of bytes)) [
 abbrev pub fault_at : Line → MacroCause → MacroFault
 fault_at line cause = record { cause = cause; file = line.file; line = line.number }
 
+-- the fault at the line that was found
 abbrev pub line_fault_of : Option (Line × MacroCause) → Option MacroFault
 line_fault_of None = None
 line_fault_of (Some (line, cause)) = Some (fault_at line cause)
 
+-- the fault of a file's first definition that has one
 abbrev pub file_part_fault : ℕ → List ℕ → Option MacroFault
 file_part_fault file bytes = line_fault_of (first_part_fault (file_parts file bytes))
 

@@ -25,6 +25,7 @@ pieces_from separator quote count (byte ∷ following) =
       | piece ∷ pieces ↦ (byte ∷ piece) ∷ pieces
     ]
 
+-- the pieces of a whole text
 abbrev pub pieces : ℕ → List ℕ → List (List ℕ)
 pieces separator text = pieces_from separator None 0 text
 
@@ -36,6 +37,7 @@ closed_at quote following =
     let n = position_or_len (λ byte. byte == quote) following in
     if nat_lt n (length following) then Some (take n following, drop (n + 1) following) else None
 
+-- the text in quotes of either kind at the start, and what follows it
 unfoldable pub quoted_at : List ℕ → Found (List ℕ)
 quoted_at [] = None
 quoted_at (quote ∷ following) = if quote == ascii.apostrophe || quote == ascii.double_quote then closed_at quote following else None

@@ -21,6 +21,7 @@ pub data Naming : Type 0 where
 
 -- ---- which it is
 
+-- a place lies in a field
 abbrev pub lies_in : Span → ℕ → Bool
 lies_in field at = nat_le field.from at && nat_lt at field.to
 
@@ -47,6 +48,7 @@ sets_label (Set kind) = true
 sets_label Middle = true
 sets_label _ = false
 
+-- the statements whose operand names the symbol that they declare
 abbrev pub declares : Statement → Bool
 declares (Declare declaration) = true
 declares _ = false
@@ -69,13 +71,16 @@ naming_at text fields at = elim (statement_of (part text fields.operation)) [
 abbrev pub name_length : List ℕ → ℕ
 name_length text = prefix_len is_name_byte text
 
+-- how many bytes of a text go with the name at its start: those of the name, and a dot after it
 unfoldable pub taken_length : List ℕ → ℕ
 taken_length text = if slice_index text (name_length text) == ascii.dot then name_length text + 1 else name_length text
 
+-- a text with these bytes before it
 abbrev pub with_front : List ℕ → Option (List ℕ) → Option (List ℕ)
 with_front front None = None
 with_front front (Some text) = Some (front ++ text)
 
+-- the first byte passes the test
 abbrev pub first_passes : (ℕ → Bool) → List ℕ → Bool
 first_passes test [] = false
 first_passes test (byte ∷ following) = test byte

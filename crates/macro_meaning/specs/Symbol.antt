@@ -16,12 +16,9 @@ pub data Symbol : Type 0 where
 abbrev pub Symbols : Type 0
 Symbols = List ℕ → Option Symbol
 
+-- the shared symbols by name, each with its kind and its text
 abbrev pub SharedTexts : Type 0
 SharedTexts = List ℕ → Option (SymbolKind × List ℕ)
-
--- these values with one more name
-abbrev pub with_name : {A : Type 0} → List ℕ → A → (List ℕ → Option A) → List ℕ → Option A
-with_name name value values asked = if bytes_eq name asked then Some value else values asked
 
 -- all that a line may name: the symbols of its expansion, the shared texts, and how many macros were called
 pub record Values : Type 0 where
@@ -33,6 +30,7 @@ pub record Values : Type 0 where
 abbrev pub is_count : List ℕ → Bool
 is_count name = bytes_eq (codes "SYSCNT") name
 
+-- a number in decimal digits
 abbrev pub decimal : ℕ → List ℕ
 decimal n = digits 10 false n
 
@@ -46,20 +44,24 @@ text_of values name = if is_count name then Some (decimal values.calls) else eli
 
 -- ---- what symbols hold
 
+-- the kind of a symbol, its own or a shared one
 abbrev pub kind_of : Symbol → SymbolKind
 kind_of (Own kind text) = kind
 kind_of (Common kind) = kind
 
+-- the declaration that makes such a symbol
 abbrev pub declaration_of : Symbol → Declaration
 declaration_of (Own kind text) = Local kind
 declaration_of (Common kind) = Shared kind
 
+-- two kinds are the same
 abbrev pub is_kind : SymbolKind → SymbolKind → Bool
 is_kind Number Number = true
 is_kind Flag Flag = true
 is_kind Text Text = true
 is_kind _ _ = false
 
+-- two declarations are the same
 abbrev pub is_declaration : Declaration → Declaration → Bool
 is_declaration (Local a) (Local b) = is_kind a b
 is_declaration (Shared a) (Shared b) = is_kind a b

@@ -10,7 +10,8 @@ use Rattle.macro_meaning.specs.Call.{no_symbols}
 use Rattle.macro_meaning.specs.Effect.{Effect, NoEffect, Emit, DeclareSymbol, SetSymbol, BranchTo, SetCounter, Exit, CallMacro, Fail, SymbolSetting, IsEffect}
 use Rattle.macro_meaning.specs.Definition.{MacroBody, MacroDefinition}
 use Rattle.macro_meaning.specs.Statements.{sequence_name}
-use Rattle.macro_meaning.specs.Symbol.{Own, Common, Symbols, SharedTexts, with_name, first_text}
+use Rattle.macro_meaning.specs.Symbol.{Own, Common, Symbols, SharedTexts, first_text}
+use Rattle.orca_meaning.specs.Names.{with_name}
 
 -- the lines of the source, and the macros
 pub record MacroProgram : Type 0 where
@@ -34,16 +35,21 @@ pub record Visit : Type 0 where
 
 -- what follows a visit
 pub data Move : Type 0 where
+  -- this visit
   On : (v : Visit) → Move
+  -- nothing: the whole expansion has ended without a fault
   Ends : Move
+  -- nothing: the visited line has a fault
   Stops : (line : Line) (cause : MacroCause) → Move
 
 -- ---- lines
 
+-- the lines of a macro by its place among the definitions, or those of the source
 abbrev pub body_of : MacroProgram → Option ℕ → MacroBody
 body_of program None = program.source
 body_of program (Some place) = elim (slice_get program.definitions place) [ None ↦ record { lines = []; reach = 0 } | Some d ↦ d.body ]
 
+-- the line at a place of a macro, or of the source
 abbrev pub line_at : MacroProgram → Option ℕ → ℕ → Option Line
 line_at program macro place = slice_get (body_of program macro).lines place
 
@@ -52,6 +58,7 @@ abbrev pub root_by : Option ℕ → ℕ → ℕ → ℕ
 root_by None root number = number
 root_by (Some place) root number = root
 
+-- where the line of this number is in a visit
 abbrev pub setting_of : MacroProgram → Visit → ℕ → SymbolSetting
 setting_of program v number = record {
   definitions = program.definitions;
@@ -66,6 +73,7 @@ setting_of program v number = record {
 abbrev pub shared_first : List ℕ → SymbolKind → SharedTexts → SharedTexts
 shared_first name kind texts = if is_some (texts name) then texts else with_name name (kind, first_text kind) texts
 
+-- the visit with what its line declares or sets
 abbrev pub visit_after : Visit → Effect → Visit
 visit_after v (DeclareSymbol name (Local kind)) = record v { symbols = with_name name (Own kind (first_text kind)) v.symbols }
 visit_after v (DeclareSymbol name (Shared kind)) = record v { symbols = with_name name (Common kind) v.symbols; texts = shared_first name kind v.texts }
@@ -79,12 +87,14 @@ visit_after v _ = v
 
 -- ---- what follows
 
+-- the first move where the line is there, and else the other
 abbrev pub if_line : Option Line → Move → Move → Move
 if_line None on otherwise = otherwise
 if_line (Some line) on otherwise = on
 
--- after an expansion: the line after its call, with what all expansions share as it is now, or, where no line is there, the line
--- after the call of the expansion around it
+-- What follows the last visit of an expansion of this depth, which the visit at the place `caller` called: the line after that call,
+-- with what all expansions share as it is now; where the call is in the last line of its body, what follows that expansion. After the
+-- source, of depth 0, all ends.
 unfoldable pub move_after_expansion : MacroProgram → List Visit → Visit → ℕ → Option ℕ → Move
 move_after_expansion program before last zero caller = Ends
 move_after_expansion program before last (suc depth) None = Ends
@@ -97,9 +107,11 @@ move_after_expansion program before last (suc depth) (Some place) = elim (slice_
 unfoldable pub next_line : MacroProgram → List Visit → Visit → Move
 next_line program before v = if_line (line_at program v.macro (v.line + 1)) (On (record v { line = v.line + 1 })) (move_after_expansion program before v v.depth v.caller)
 
+-- the label of the line is this sequence symbol
 abbrev pub has_sequence : List ℕ → Line → Bool
 has_sequence name line = elim (sequence_name (part line.text line.fields.label)) [ None ↦ false | Some other ↦ bytes_eq other name ]
 
+-- the places of the lines with this sequence symbol, of which the first is at this place
 unfoldable pub places_from : ℕ → List ℕ → List Line → List ℕ
 places_from at name [] = []
 places_from at name (line ∷ lines) =
@@ -152,8 +164,8 @@ IsVisit program before v given move = elim (line_at program v.macro v.line) [
   | None ↦ (given ≡ []) × (move ≡ Ends)
   | Some line ↦ elim (length before == most_visits) [
     | true ↦ (given ≡ []) × (move ≡ Stops line TooManyLines)
-    | false ↦ (effect_done : Effect) × IsEffect (setting_of program v line.number) line effect_done
-        × (given ≡ (elim effect_done [ Emit text ↦ line_of line.file line.number text ∷ [] | _ ↦ [] ])) × (move ≡ move_of program before v line effect_done)
+    | false ↦ (effect : Effect) × IsEffect (setting_of program v line.number) line effect
+        × (given ≡ (elim effect [ Emit text ↦ line_of line.file line.number text ∷ [] | _ ↦ [] ])) × (move ≡ move_of program before v line effect)
   ]
 ]
 
@@ -163,6 +175,7 @@ Follow program before v [] given end = IsVisit program before v given end
 Follow program before v (w ∷ ws) given end =
     (first rest : List Line) × IsVisit program before v first (On w) × (given ≡ first ++ rest) × Follow program (before ++ v ∷ []) w ws rest end
 
+-- no shared symbol has a text
 abbrev pub no_texts : SharedTexts
 no_texts name = None
 

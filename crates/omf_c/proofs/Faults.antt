@@ -15,7 +15,7 @@ use Rattle.link_meaning.specs.LinkFaults.{LinkInput}
 use Rattle.link_meaning.specs.EmitFaults.{IsFirstLinkFault}
 use Rattle.asm_meaning.specs.declared.faults.AsmCause.TheVariants as asm_causes
 use Rattle.asm_meaning.specs.declared.faults.AsmFault.{AsmFault}
-use Rattle.asm_meaning.specs.Object as asm
+use Rattle.source_meaning.specs.Object as asm
 use Rattle.omf_records.specs.Segments as records
 use Rattle.load_content.specs.Views.{UnlessMemory}
 use Rattle.omf_cells.specs.Load as cells

@@ -9,7 +9,7 @@ use Rattle.link_meaning.specs.declared.form.LinkForm.{LinkForm}
 use Rattle.link_meaning.specs.LinkFaults as link
 use Rattle.link_meaning.specs.EmitFaults.{IsFirstLinkFault, IsLinkedTo}
 use Rattle.link_resolve.specs.Resolved.{FewGiven, HavePaths}
-use Rattle.asm_meaning.specs.Object as asm
+use Rattle.source_meaning.specs.Object as asm
 use Rattle.omf_c.specs.declared.fault.OmfFault.{OmfFault}
 use Rattle.omf_c.specs.declared.file.OmfBytes.{OmfBytes}
 use Rattle.omf_c.specs.declared.file.OmfFile.{OmfFile}

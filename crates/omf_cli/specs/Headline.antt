@@ -1,8 +1,8 @@
 -- The headline on one page: what an object, a load file, a load of it, a reply and a listing are, as laws about the definitions that
 -- the contracts of the commands cite. The contracts tie these to the bytes that are written and the lines that are printed.
 use Rattle.std.specs.Prelude.{◌≡◌, ℕ, List}
-use Rattle.asm_meaning.specs.ObjectLaws.{OneObject, NoFaultBeside}
-use Rattle.asm_meaning.specs.ObjectFile.{ObjectIsFile}
+use Rattle.source_meaning.specs.ObjectLaws.{OneObject, NoFaultBeside}
+use Rattle.source_meaning.specs.ObjectLaws.{ObjectIsFile}
 use Rattle.link_meaning.specs.EmitFaults.{OneLinkAnswer}
 use Rattle.link_meaning.specs.LinkLoadable.{StandsForLinkedCells, OnlyCallsReachDynamic, IsLoadedWhereNoneSkipped}
 use Rattle.loader_agrees.specs.StepsOnce.{StepsOnce}

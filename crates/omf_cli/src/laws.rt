@@ -4,12 +4,12 @@ ghost use Rattle.omf_cli.specs.Headline.{Headline};
 ghost use Rattle.omf_cli.specs.Laws.{OutputsAreAskedForOnce, LibrariesAreAskedForOnce, ObjectsAreAskedForOnce, ScriptsAreAskedForOnce};
 ghost use Rattle.omf_cli.specs.Loads.{LinkedFilesBegin};
 
-use asm_meaning::{objects_are_files, sources_have_one_object};
 use link_meaning::{
     files_have_one_answer, linked_files_are_loaded, linked_files_have_their_headers_and_cells,
 };
 use loader_agrees::commands_have_one_reply;
 use omf_records::files_are_read_in_one_way;
+use source_meaning::{objects_are_files, sources_have_one_object};
 
 /// A run that ends with a failed write or a script that couldn't be read has asked the store for each input once, and for
 /// nothing else: that failure, and none of a later read, is the cause.

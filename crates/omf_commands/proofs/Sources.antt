@@ -8,7 +8,7 @@ use Rattle.std.proofs.lemmas.Bool.{and_parts, leb-true}
 use Rattle.std.specs.declared.alloc.Global.{Global}
 use Rattle.std.proofs.lemmas.List.{length-map}
 use Rattle.asm_meaning.specs.declared.faults.AsmFault.{AsmFault}
-use Rattle.asm_meaning.specs.Object.{IsAsmFault, OutOfMemory, First}
+use Rattle.source_meaning.specs.Object.{IsAsmFault, OutOfMemory, First}
 use Rattle.omf_making.specs.Form.{CommandForm, Asm, Link, Dump, Run, Lib, Stress, Rtl, LinkRt, Listing, Compact, form_of, with_output, source_and_output, count_and_seed, output_and_runtimes, input_and_output}
 use Rattle.omf_making.specs.Steps.{inputs_only}
 use Rattle.omf_making.specs.Words.{is_path, are_paths, words_of}

@@ -2,7 +2,7 @@
 use Rattle.std.specs.Prelude.{◌≡◌, ◌≢◌, ℕ, List, [], ◌∷◌}
 use Rattle.asm_meaning.specs.declared.faults.AsmCause.TheVariants as causes
 use Rattle.asm_meaning.specs.declared.faults.AsmFault.{AsmFault}
-use Rattle.asm_meaning.specs.Object.{IsObject, IsFirstFault}
+use Rattle.source_meaning.specs.Object.{IsObject, IsFirstFault}
 use Rattle.omf_commands.specs.AsmCauses.{asm_cause_name}
 use Rattle.omf_making.specs.Lines.{line_fault_line}
 use Rattle.omf_making.specs.Made.{Made, Bytes, Refusal, first_of}

@@ -5,7 +5,7 @@ use Rattle.omf_io.specs.Outside.{Outside}
 use Rattle.macro_meaning.specs.declared.faults.MacroCause.TheVariants as causes
 use Rattle.macro_meaning.specs.declared.faults.MacroFault.{MacroFault}
 use Rattle.macro_meaning.specs.Expansion.{IsFirstFault}
-use Rattle.asm_meaning.specs.Object.{cause_of}
+use Rattle.source_meaning.specs.Object.{cause_of}
 use Rattle.expand_lines.specs.LinesText.{IsTextOf}
 use Rattle.omf_making.specs.declared.status.Status.{Status}
 use Rattle.omf_making.specs.declared.status.Status.TheVariants as status

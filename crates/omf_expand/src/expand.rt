@@ -1,7 +1,7 @@
 //! All that the program does.
 
 ghost use Rattle.std.specs.Prelude.{◌≡◌, ◌⊎◌, IfOk};
-ghost use Rattle.asm_meaning.specs.Object.{cause_of};
+ghost use Rattle.source_meaning.specs.Object.{cause_of};
 ghost use Rattle.omf_io.specs.Outside.{outside};
 ghost use Rattle.omf_commands.specs.AsmCauses.{asm_cause_name};
 ghost use Rattle.omf_making.specs.Made.{all_bytes, made_of};

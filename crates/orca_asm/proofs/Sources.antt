@@ -12,7 +12,7 @@ use Rattle.macro_meaning.specs.laws.Steps.{IsFaultFor}
 use Rattle.asm_meaning.specs.declared.faults.AsmCause.{AsmCause}
 use Rattle.asm_meaning.specs.declared.faults.AsmCause.TheVariants.{Memory}
 use Rattle.asm_meaning.specs.declared.faults.AsmFault.{AsmFault}
-use Rattle.asm_meaning.specs.Object.{HasLines, cause_of, IsFirstFault, InExpansion, InLine, InSegment, InLength, IsAsmFault, OutOfMemory, First}
+use Rattle.source_meaning.specs.Object.{HasLines, cause_of, IsFirstFault, InExpansion, InLine, InSegment, InLength, IsAsmFault, OutOfMemory, First}
 use Rattle.asm_meaning.specs.State.{StartedSegment}
 use Rattle.orca_object.specs.AssembleView.{IsLastFault, IsAssembled}
 

@@ -3,7 +3,7 @@
 ghost use Rattle.std.specs.Prelude.{◌≡◌, List, ℕ, IfOk, IfErr};
 ghost use Rattle.orca_macro.specs.Files.{texts_of_files};
 ghost use Rattle.macro_meaning.specs.Expansion.{IsMacroFault};
-ghost use Rattle.asm_meaning.specs.Object.{IsObject, IsAsmFault, cause_of};
+ghost use Rattle.source_meaning.specs.Object.{IsObject, IsAsmFault, cause_of};
 
 use asm_meaning::{AsmCause, AsmFault};
 use orca_macro::{MacroCause, MacroFault, expand};

@@ -8,7 +8,8 @@ use Rattle.macro_meaning.specs.declared.statements.SymbolKind.{SymbolKind}
 use Rattle.macro_meaning.specs.declared.statements.Declaration.{Declaration}
 use Rattle.macro_meaning.specs.declared.statements.Declaration.TheVariants.{Local, Shared}
 use Rattle.macro_meaning.specs.Effect as effects
-use Rattle.macro_meaning.specs.Symbol.{Symbol, Own, Common, Symbols, SharedTexts, with_name, first_text}
+use Rattle.macro_meaning.specs.Symbol.{Symbol, Own, Common, Symbols, SharedTexts, first_text}
+use Rattle.orca_meaning.specs.Names.{with_name}
 use Rattle.macro_meaning.specs.Visit.{MacroProgram, Visit, Move, On, Stops, line_at, body_of, target_of, if_line, visit_after, move_after_expansion, next_line, call_of, move_of, root_by, shared_first}
 use Rattle.macro_meaning.specs.laws.Steps.{next_visit, branch_to, set_by}
 use Rattle.orca_macro.specs.declared.visits.Flow.{Flow}

@@ -8,9 +8,11 @@ use Rattle.omf_format.specs.Ascii as ascii
 abbrev pub is_blank : ℕ → Bool
 is_blank byte = byte == ascii.space || byte == ascii.tab
 
+-- the letters are those of ASCII, in upper and lower case
 abbrev pub is_letter : ℕ → Bool
 is_letter byte = (nat_le ascii.capital_a byte && nat_le byte ascii.capital_z) || (nat_le ascii.small_a byte && nat_le byte ascii.small_z)
 
+-- the digits are 0 to 9
 abbrev pub is_decimal_digit : ℕ → Bool
 is_decimal_digit byte = nat_le ascii.digit_0 byte && nat_le byte ascii.digit_9
 
@@ -22,6 +24,7 @@ is_name_start byte = is_letter byte || byte == ascii.underscore || byte == ascii
 abbrev pub is_name_byte : ℕ → Bool
 is_name_byte byte = is_name_start byte || is_decimal_digit byte
 
+-- a text that is a name whole
 unfoldable pub is_name : List ℕ → Bool
 is_name [] = false
 is_name (byte ∷ following) = is_name_start byte && list_all is_name_byte following

@@ -16,6 +16,7 @@ abbrev pub sign_code : Sign → ℕ
 sign_code Negate = 0x06
 sign_code Not = 0x0B
 
+-- what an operator between two operands is in an expression
 abbrev pub operator_code : Operator → ℕ
 operator_code Multiply = 0x03
 operator_code Divide = 0x04
@@ -65,13 +66,13 @@ level_of (Group inner) = 0
 level_of (Signed sign operand) = 1
 level_of (Joined operator left right) = operator_level operator
 
--- a lower level binds tighter, and within a level the left binds first
-abbrev pub IsFormula : Formula → Type 0
-IsFormula (Single operand) = Unit {0}
-IsFormula (Group inner) = IsFormula inner
-IsFormula (Signed sign operand) = (level_of operand ≤ 1) × IsFormula operand
-IsFormula (Joined operator left right) =
-    (level_of left ≤ operator_level operator) × (level_of right < operator_level operator) × IsFormula left × IsFormula right
+-- the operators of a formula bind by level: a lower one binds tighter, and within a level the left binds first
+abbrev pub BindsByLevel : Formula → Type 0
+BindsByLevel (Single operand) = Unit {0}
+BindsByLevel (Group inner) = BindsByLevel inner
+BindsByLevel (Signed sign operand) = (level_of operand ≤ 1) × BindsByLevel operand
+BindsByLevel (Joined operator left right) =
+    (level_of left ≤ operator_level operator) × (level_of right < operator_level operator) × BindsByLevel left × BindsByLevel right
 
 -- how it is written
 abbrev pub tokens_of : Formula → List Token
@@ -82,7 +83,7 @@ tokens_of (Joined operator left right) = tokens_of left ++ Between operator ∷ 
 
 -- a formula is at the start of a text, where no operator follows it
 pub record StandsAt (operands : Operands) (text : List ℕ) (formula : Formula) (rest : List ℕ) : Type 0 where
-  pub formed : IsFormula formula
+  pub formed : BindsByLevel formula
   pub spelled : Stand operands true text (tokens_of formula) rest
   pub ends : operator_at rest ≡ None
 

@@ -1,4 +1,5 @@
 pub mod Characters
+pub mod Names
 pub mod Quotes
 pub mod Operation
 pub mod Line

@@ -24,6 +24,7 @@ pub record LineFields : Type 0 where
   pub operation : Span
   pub operand : Span
 
+-- the place from one byte up to another
 abbrev pub span : ℕ → ℕ → Span
 span from to = record { from = from; to = to }
 
@@ -35,6 +36,7 @@ part text s = take (s.to - s.from) (drop s.from text)
 abbrev pub next_blank : List ℕ → ℕ → ℕ
 next_blank text at = at + position_or_len is_blank (drop at text)
 
+-- the place of the first byte that is no blank, at a place or after it; the line's end where there is none
 abbrev pub next_ink : List ℕ → ℕ → ℕ
 next_ink text at = at + position_or_len (λ byte. not (is_blank byte)) (drop at text)
 
@@ -48,7 +50,8 @@ three_fields text =
     let operand = next_ink text operation_end in
     record { label = span 0 label_end; operation = span operation operation_end; operand = span operand (operand + outside_from is_blank None (drop operand text)) }
 
--- the third field, or nothing where the operation takes no operand, or may lack it and a comment begins there
+-- The operand of a line by what its operation does with one: the third field; but nothing where the operation takes no operand, or
+-- where it may lack it and the third field begins with `;`, which is a comment.
 abbrev pub operand_span : OperandUse → List ℕ → Span → Span
 operand_span Never text third = span third.from third.from
 operand_span Accumulator text third = if slice_index text third.from == ascii.semicolon then span third.from third.from else third
@@ -71,6 +74,7 @@ pub record Line : Type 0 where
   pub text : List ℕ
   pub fields : LineFields
 
+-- the line of this number in this file, with the fields of its text
 abbrev pub line_of : ℕ → ℕ → List ℕ → Line
 line_of file number text = record { file = file; number = number; text = text; fields = fields_of text }
 
@@ -95,6 +99,7 @@ first_line_fault number (text ∷ texts) = elim (line_fault number text) [ Some 
 abbrev pub LiesIn : List ℕ → Span → Type 0
 LiesIn text s = (s.from ≤ s.to) × (s.to ≤ length text)
 
+-- the places of all three fields lie in the text
 pub record HaveFields (text : List ℕ) (fields : LineFields) : Type 0 where
   pub label : LiesIn text fields.label
   pub operation : LiesIn text fields.operation

@@ -24,6 +24,7 @@ use Rattle.orca_meaning.specs.Operation.{use_of}
 
 -- ---- before the formula
 
+-- what follows the opening byte, where there is one
 abbrev pub after_opening : Opening → List ℕ → List ℕ
 after_opening Open text = text
 after_opening Hash text = drop 1 text
@@ -72,6 +73,7 @@ plain_form X = IndexX
 plain_form Y = IndexY
 plain_form S = IndexS
 
+-- the forms in parentheses, by the index in them and the one after them
 abbrev pub round_form : Index × Index → Form
 round_form (Absent, Absent) = Paren
 round_form (Absent, Y) = ParenY
@@ -79,6 +81,7 @@ round_form (X, Absent) = ParenX
 round_form (S, Y) = ParenSY
 round_form _ = Other
 
+-- the forms in brackets, by the index in them and the one after them
 abbrev pub square_form : Index × Index → Form
 square_form (Absent, Absent) = Bracket
 square_form (Absent, Y) = BracketY
@@ -113,6 +116,7 @@ opening mnemonic (byte ∷ following) =
     else if byte == ascii.opening_square then Square
     else Open
 
+-- the prefix of an operand's text
 abbrev pub prefix : Option Mnemonic → List ℕ → Prefix
 prefix mnemonic text = prefix_of (opening mnemonic text) (after_opening (opening mnemonic text) text)
 
@@ -122,7 +126,7 @@ body mnemonic text =
     let following = after_opening (opening mnemonic text) text in
     elim (prefix mnemonic text) [ Bare ↦ following | _ ↦ drop 1 following ]
 
--- what an operand's text is, in a line with this mnemonic or none
+-- what the text of an operand field means, in a line with this mnemonic or none (a formula's operand is `Operand`, of Token)
 pub data IsOperand (mnemonic : Option Mnemonic) (text : List ℕ) (meaning : Meaning) : Type 0 where
   IsMissing : text ≡ [] → meaning ≡ record { form = Nothing; prefix = Bare; trees = [] } → IsOperand mnemonic text meaning
   IsInAccumulator : is_accumulator mnemonic text ≡ true → meaning ≡ record { form = Accumulator; prefix = Bare; trees = [] }

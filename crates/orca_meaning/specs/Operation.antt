@@ -48,6 +48,7 @@ value_of_spelling word (row ∷ rows) = if bytes_eq row.0 word then Some row.1 e
 unfoldable pub mnemonic_of : List ℕ → Option Mnemonic
 mnemonic_of operation = value_of_spelling (folded operation) mnemonics
 
+-- a mnemonic has a mode where an opcode is of both
 abbrev pub has_mode : Mnemonic → Mode → Bool
 has_mode mnemonic mode = is_some (opcode_of mnemonic mode)
 

@@ -34,6 +34,7 @@ pub data Token : Type 0 where
 abbrev pub Found : Type 0 → Type 0
 Found A = Option (A × List ℕ)
 
+-- what was found, seen as something else, with the same bytes after it
 abbrev pub seen_as : {A B : Type 0} → (A → B) → Found A → Found B
 seen_as f found = option_map (λ x. (f x.0, x.1)) found
 
@@ -46,8 +47,8 @@ digits_at base text =
     if n == 0 then None else Some (digits_value base (take n text), drop n text)
 
 -- the number of one to four bytes up to the closing quote, the first of them lowest
-unfoldable pub text_at : ℕ → List ℕ → Found ℕ
-text_at quote following =
+unfoldable pub quoted_number_at : ℕ → List ℕ → Found ℕ
+quoted_number_at quote following =
     let n = position_or_len (λ byte. byte == quote) following in
     if nat_le 1 n && nat_le n 4 && nat_lt n (length following) then Some (little_number n following, drop (n + 1) following) else None
 
@@ -58,7 +59,7 @@ number_at (byte ∷ following) =
     if byte == ascii.dollar then digits_at 16 following
     else if byte == ascii.percent then digits_at 2 following
     else if byte == ascii.at_sign then digits_at 8 following
-    else if byte == ascii.apostrophe || byte == ascii.double_quote then text_at byte following
+    else if byte == ascii.apostrophe || byte == ascii.double_quote then quoted_number_at byte following
     else digits_at 10 (byte ∷ following)
 
 -- ---- names
@@ -110,6 +111,7 @@ spelled_at [] text = None
 spelled_at (row ∷ rows) text =
     if bytes_eq row.0 (folded (take (length row.0) text)) then Some (row.1, drop (length row.0) text) else spelled_at rows text
 
+-- the operator before an operand at the start
 unfoldable pub sign_at : List ℕ → Found Sign
 sign_at text = spelled_at ((codes "-", Negate) ∷ (codes ".NOT.", Not) ∷ []) text
 
@@ -136,6 +138,7 @@ operand_token_at operands text =
 unfoldable pub operator_token_at : List ℕ → Found Token
 operator_token_at text = option_or (byte_at ascii.closing_round Closes text) (seen_as Between (operator_at text))
 
+-- the token at the start, where an operand is expected or where none is
 abbrev pub token_at : Operands → Bool → List ℕ → Found Token
 token_at operands true text = operand_token_at operands text
 token_at operands false text = operator_token_at text

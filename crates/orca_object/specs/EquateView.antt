@@ -1,7 +1,7 @@
 -- A constant of GEQU outside segments.
 use Rattle.std.specs.Prelude.{ℕ, true, List, [], ◌∷◌, ◌++◌}
 use Rattle.omf_format.specs.Expression.{Leaf, Constant}
-use Rattle.macro_meaning.specs.Symbol.{with_name}
+use Rattle.orca_meaning.specs.Names.{with_name}
 use Rattle.asm_meaning.specs.State.{State}
 use Rattle.asm_meaning.specs.Statement.{equate}
 

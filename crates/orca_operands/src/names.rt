@@ -31,7 +31,7 @@ pub struct KnownConstants<'a> {
 
 impl DefinedNames {
     ghost use Rattle.std.specs.Prelude.{◌≡◌, [], length, bytes_eq, None, IfOk, OnOk, MatchOption, is_some, option_copied};
-    ghost use Rattle.macro_meaning.specs.Symbol.{with_name};
+    ghost use Rattle.orca_meaning.specs.Names.{with_name};
     ghost use Rattle.asm_meaning.specs.State.{no_names, no_constants};
     ghost use Rattle.asm_meaning.specs.Constant.{AreSmall};
     ghost use Rattle.orca_operands.specs.NamesView.{names_of, outside_of, constants, value_in_names};
@@ -83,7 +83,7 @@ impl DefinedNames {
 
 impl OutsideConstants {
     ghost use Rattle.std.specs.Prelude.{◌≡◌, [], length, bytes_eq, None, IfOk, OnOk, MatchOption, is_some, option_copied};
-    ghost use Rattle.macro_meaning.specs.Symbol.{with_name};
+    ghost use Rattle.orca_meaning.specs.Names.{with_name};
     ghost use Rattle.asm_meaning.specs.State.{no_names, no_constants};
     ghost use Rattle.asm_meaning.specs.Constant.{AreSmall};
     ghost use Rattle.orca_operands.specs.NamesView.{names_of, outside_of, constants, value_in_names};
@@ -118,7 +118,7 @@ impl OutsideConstants {
 
 impl<'a> KnownConstants<'a> {
     ghost use Rattle.std.specs.Prelude.{◌≡◌, [], length, bytes_eq, None, IfOk, OnOk, MatchOption, is_some, option_copied};
-    ghost use Rattle.macro_meaning.specs.Symbol.{with_name};
+    ghost use Rattle.orca_meaning.specs.Names.{with_name};
     ghost use Rattle.asm_meaning.specs.State.{no_names, no_constants};
     ghost use Rattle.asm_meaning.specs.Constant.{AreSmall};
     ghost use Rattle.orca_operands.specs.NamesView.{names_of, outside_of, constants, value_in_names};

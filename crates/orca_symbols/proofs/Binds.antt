@@ -6,7 +6,8 @@ use Rattle.std.proofs.Math.Nat.{eq-or-lt_of_le}
 use Rattle.std.proofs.lemmas.Bool.{ne_eqb}
 use Rattle.std.proofs.lemmas.List.Folds.{list_any_at}
 use Rattle.macro_meaning.specs.declared.statements.SymbolKind.TheVariants.{Text}
-use Rattle.macro_meaning.specs.Symbol.{Symbol, Own, Symbols, with_name}
+use Rattle.macro_meaning.specs.Symbol.{Symbol, Own, Symbols}
+use Rattle.orca_meaning.specs.Names.{with_name}
 use Rattle.macro_meaning.specs.Call.{Binding, binding, keyword_from, bound_arguments, bound_once, bound_all, with_missing, all_names, label_bound}
 use Rattle.macro_meaning.specs.laws.Steps.{is_among, by_place, or_place, complete, arguments}
 use Rattle.std.specs.List.{prefix_len}

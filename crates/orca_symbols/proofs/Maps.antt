@@ -7,7 +7,7 @@ use Rattle.std.specs.Map.{IsKeyTest, AreApart, KeepsOthers, lookup}
 use Rattle.indexmap.specs.IndexMap.{IndexMap, UpdatesBy, IsEmpty}
 use Rattle.std.specs.Option.{option_map}
 use Rattle.std.proofs.Math.Path.{fun_ext}
-use Rattle.macro_meaning.specs.Symbol.{with_name}
+use Rattle.orca_meaning.specs.Names.{with_name}
 use Rattle.orca_symbols.specs.Held.{value_of_name}
 use Rattle.orca_symbols.proofs.Parted.{drop_next}
 

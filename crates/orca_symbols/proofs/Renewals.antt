@@ -4,7 +4,8 @@ use Rattle.std.specs.Prelude.{bytes_eq}
 use Rattle.std.specs.Cmp.Lexicographic.{bytes_decides}
 use Rattle.std.proofs.Math.Path.{fun_ext}
 use Rattle.macro_meaning.specs.declared.statements.SymbolKind.{SymbolKind}
-use Rattle.macro_meaning.specs.Symbol.{Symbol, Own, Common, Symbols, SharedTexts, with_name}
+use Rattle.macro_meaning.specs.Symbol.{Symbol, Own, Common, Symbols, SharedTexts}
+use Rattle.orca_meaning.specs.Names.{with_name}
 use Rattle.orca_symbols.specs.Changes.{IsAssigned, IsRenewed, IsRenewedIn}
 
 -- a name that is given the value that it has

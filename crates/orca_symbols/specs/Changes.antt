@@ -3,7 +3,8 @@ use Rattle.std.specs.Prelude.{◌≡◌, ℕ, List, Option, Some, None}
 use Rattle.macro_meaning.specs.declared.statements.SymbolKind.{SymbolKind}
 use Rattle.macro_meaning.specs.declared.statements.Declaration.{Declaration}
 use Rattle.macro_meaning.specs.declared.statements.Declaration.TheVariants.{Local, Shared}
-use Rattle.macro_meaning.specs.Symbol.{Symbol, Own, Common, Symbols, SharedTexts, with_name, first_text}
+use Rattle.macro_meaning.specs.Symbol.{Symbol, Own, Common, Symbols, SharedTexts, first_text}
+use Rattle.orca_meaning.specs.Names.{with_name}
 use Rattle.macro_meaning.specs.Visit.{shared_first}
 
 abbrev pub IsDeclared : List ℕ → Declaration → Symbols → Symbols → SharedTexts → SharedTexts → Type 0

@@ -1,7 +1,8 @@
 //! Symbols, and the texts that they represent (ORCA/M reference manual, "Symbolic parameters").
 
 ghost use Rattle.std.specs.Prelude.{◌≡◌, ◌+◌, ◌<◌, ◌≤◌, ◌^◌, [], List, ℕ, length, bytes_eq, Some, None, IfOk, IfSome, OnOk, MatchOption, is_none, IsTrue, if◌then◌else◌, option_map};
-ghost use Rattle.macro_meaning.specs.Symbol.{text_of, decimal, signed_decimal, kind_of, declaration_of, is_kind, is_declaration, first_text, is_count, with_name};
+ghost use Rattle.macro_meaning.specs.Symbol.{text_of, decimal, signed_decimal, kind_of, declaration_of, is_kind, is_declaration, first_text, is_count};
+ghost use Rattle.orca_meaning.specs.Names.{with_name};
 ghost use Rattle.macro_meaning.specs.Call.{no_symbols};
 ghost use Rattle.macro_meaning.specs.Visit.{no_texts};
 ghost use Rattle.macro_meaning.specs.laws.Steps;

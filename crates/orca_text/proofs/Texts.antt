@@ -3,7 +3,7 @@ use Rattle.std.proofs.Common.{◌≡◌, ℕ, ◌+◌, ◌<◌, ◌≤◌, Bool,
 use Rattle.std.specs.List.{position, position_or_len}
 use Rattle.std.proofs.lemmas.Bool.{le-leb}
 use Rattle.omf_format.specs.Number.{number_at}
-use Rattle.orca_meaning.specs.Token.{text_at}
+use Rattle.orca_meaning.specs.Token.{quoted_number_at}
 use Rattle.orca_text.proofs.Places.{found}
 
 cond_true : (b : Bool) (n i : ℕ) → cond b (Some n) None ≡ Some i → b ≡ true
@@ -11,8 +11,8 @@ cond_true true n i e = refl
 cond_true false n i e = absurd cc
 
 pub text_found : (quote close number : ℕ) (following rest : List ℕ) → position (λ byte. eqb byte quote) following ≡ Some close → 1 ≤ close → close ≤ 4
-    → number ≡ number_at close 0 following → rest ≡ drop (close + 1) following → text_at quote following ≡ Some (number, rest)
-unfolding text_at number_at
+    → number ≡ number_at close 0 following → rest ≡ drop (close + 1) following → quoted_number_at quote following ≡ Some (number, rest)
+unfolding quoted_number_at number_at
 text_found quote close number following rest is some few number_is rest_is =
     let n = position_or_len (λ byte. eqb byte quote) following in
     let same : close ≡ n = found (λ byte. eqb byte quote) following close is in

@@ -3,7 +3,7 @@
 ghost use Rattle.std.specs.Prelude.{◌≡◌, ◌+◌, ◌*◌, ◌^◌, ◌<◌, ◌≤◌, true, false, length, drop, Some, None, IfOk, IfSome, MatchOption};
 ghost use Rattle.std.specs.Char.{digit_value, is_digit};
 ghost use Rattle.std.specs.List.{prefix_len};
-ghost use Rattle.orca_meaning.specs.Token.{seen_as, digits_at, text_at, number_at};
+ghost use Rattle.orca_meaning.specs.Token.{seen_as, digits_at, quoted_number_at, number_at};
 ghost use Rattle.orca_text.specs.Kept.{fitting};
 
 use crate::fields::from;
@@ -86,9 +86,9 @@ fn closing(quote: u8, following: &[u8]) -> Option<usize>
 }
 
 /// The number that a text of one to four bytes is, and what follows its closing quote.
-#[tactic(auto, unfolding(orca_meaning::specs::Token::text_at))]
-fn text_at(quote: u8, following: &[u8]) -> Option<(u32, &[u8])>
-    ensures { MatchOption result (text_at quote following.now ≡ None) (λ x. (text_at quote following.now ≡ Some (x.0, x.1.now)) × (x.0 < 2 ^ 32)) }
+#[tactic(auto, unfolding(orca_meaning::specs::Token::quoted_number_at))]
+fn quoted_number_at(quote: u8, following: &[u8]) -> Option<(u32, &[u8])>
+    ensures { MatchOption result (quoted_number_at quote following.now ≡ None) (λ x. (quoted_number_at quote following.now ≡ Some (x.0, x.1.now)) × (x.0 < 2 ^ 32)) }
 {
     let Some(close) = closing(quote, following) else {
         return None;
@@ -119,9 +119,9 @@ pub(crate) fn number_at(text: &[u8]) -> Option<(Option<u32>, &[u8])>
 
 /// The number that a text of one to four bytes is, which always fits, and what follows its closing quote.
 fn short_text_at(quote: u8, following: &[u8]) -> Option<(Option<u32>, &[u8])>
-    ensures { MatchOption result (text_at quote following.now ≡ None) (λ x. seen_as fitting (text_at quote following.now) ≡ Some (x.0, x.1.now)) }
+    ensures { MatchOption result (quoted_number_at quote following.now ≡ None) (λ x. seen_as fitting (quoted_number_at quote following.now) ≡ Some (x.0, x.1.now)) }
 {
-    match text_at(quote, following) {
+    match quoted_number_at(quote, following) {
         Some((number, rest)) => Some((Some(number), rest)),
         None => None,
     }

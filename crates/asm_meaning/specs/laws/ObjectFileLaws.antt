@@ -1,4 +1,4 @@
--- Why the object is a file: its segments have the headers and the records that the lines leave, LENGTH is the number of cells, and
+-- Why an object is a file: its segments have the headers and the records that the lines leave, LENGTH is the number of cells, and
 -- the linker takes the place of a label from where its LOCAL or GLOBAL is.
 use Rattle.std.proofs.Common.{◌≡◌, ℕ, ◌+◌, ◌^◌, ◌<◌, ◌≤◌, false, true, List, [], ◌∷◌, ◌++◌, length, take, drop, map, refl, sym, ap, subst, ◌∙◌, append_assoc, append-nil, arith}
 use Rattle.std.specs.List.{flat_map, AllByRecursion}
@@ -16,26 +16,12 @@ use Rattle.omf_format.specs.File.{body_reader, IsSegment, AreSegments, IsFile}
 use Rattle.object_meaning.specs.laws.RunLaws.{IsBodyRecord, reader_at, text, placed, runs}
 use Rattle.object_meaning.specs.Sizes.{size_at, body_size}
 use Rattle.object_meaning.specs.Sizes as sizes
-use Rattle.orca_meaning.specs.Line.{Line}
-use Rattle.asm_meaning.specs.Object.{records_text, segment_text, object_text, most_bytes, AreSteps, HasLines}
+use Rattle.asm_meaning.specs.Object.{records_text, segment_text, object_text, most_bytes}
 use Rattle.asm_meaning.specs.Pieces.{place_after}
-use Rattle.asm_meaning.specs.State.{FinishedSegment, State, start}
-use Rattle.asm_meaning.specs.laws.LinesShort.{AreShortLines, expanded_short}
+use Rattle.asm_meaning.specs.State.{FinishedSegment}
 use Rattle.asm_meaning.specs.laws.PieceLaws.{plain_fit, place_after-append}
-use Rattle.asm_meaning.specs.laws.Sound.{IsSound, IsShort, IsSoundEnded, sound_start}
-use Rattle.asm_meaning.specs.laws.StepSound.{step_sound}
-use Rattle.asm_meaning.specs.ObjectFile.{IsReadAs, AreReadAs, ObjectIsFile}
-
--- ---- what is left at the end
-
-steps_sound : (state last : State) (lines : List Line) → AreShortLines lines → IsSound state → IsShort state → AreSteps state lines last → IsSound last
-steps_sound state last [] short sound few steps = subst IsSound steps sound
-steps_sound state last (line ∷ lines) short sound few steps =
-    let next = step_sound state steps.0 line short.0 sound few steps.1 in
-    steps_sound steps.0 last lines short.1 next.0 next.1 steps.2
-
-pub lines_sound : (source : List ℕ) (macros : List (List ℕ)) (last : State) → HasLines source macros last → IsSound last
-lines_sound source macros last has = steps_sound start last has.lines (expanded_short source macros has.lines has.expanded) sound_start tt has.steps
+use Rattle.asm_meaning.specs.laws.Sound.{IsSoundEnded}
+use Rattle.asm_meaning.specs.ObjectFile.{IsReadAs, AreReadAs}
 
 -- ---- a segment
 
@@ -225,6 +211,3 @@ ended_are_file ended sound short =
     let fit = segments_fit ended sound (omega (arith, short)) in
     let both = are_segments 0 ended (flat_map segment_text ended) fit (record { front = []; size = refl; parts = refl }) in
     (segments_from 0 ended fit, both.0, both.1)
-
-pub object_is_file : ObjectIsFile
-object_is_file source macros last has short = ended_are_file last.ended (lines_sound source macros last has).ended short

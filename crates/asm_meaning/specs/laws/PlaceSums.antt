@@ -357,7 +357,7 @@ begins_empty state next line class none opens step =
       start_line = line;
       class = class;
       header = Rattle.asm_meaning.specs.State.header_of state class name load_name;
-      names = Rattle.macro_meaning.specs.Symbol.with_name name None Rattle.asm_meaning.specs.State.no_names;
+      names = Rattle.orca_meaning.specs.Names.with_name name None Rattle.asm_meaning.specs.State.no_names;
       body = front;
     }
 

@@ -7,7 +7,7 @@ use Rattle.std.specs.Option.{option_map}
 use Rattle.omf_format.specs.Header.{HeaderFields, is_listed, form_of}
 use Rattle.omf_format.specs.Record.{Record, End, Label}
 use Rattle.orca_meaning.specs.Line.{Line}
-use Rattle.macro_meaning.specs.Symbol.{with_name}
+use Rattle.orca_meaning.specs.Names.{with_name}
 use Rattle.asm_meaning.specs.declared.directives.Class.{Class}
 use Rattle.asm_meaning.specs.declared.directives.Class.TheVariants.{Code, PrivateCode, Data, PrivateData}
 use Rattle.asm_meaning.specs.declared.directives.Switch.{Switch}

@@ -7,7 +7,8 @@ use Rattle.macro_meaning.specs.Expansion.{IsFirstFault}
 use Rattle.macro_meaning.specs.Pieces.{pieces, unquoted_text}
 use Rattle.macro_meaning.specs.Statements.{target_name, whole_match}
 use Rattle.macro_meaning.specs.Substitution.{Declared, Named, Naming, Replaced, declares, is_asked, lies_in, may_ask, naming_at, sets_label, substituted_from}
-use Rattle.macro_meaning.specs.Symbol.{Common, Own, Symbol, Symbols, Values, declaration_of, is_declaration, is_kind, kind_of, signed_decimal, text_of, with_name}
+use Rattle.macro_meaning.specs.Symbol.{Common, Own, Symbol, Symbols, Values, declaration_of, is_declaration, is_kind, kind_of, signed_decimal, text_of}
+use Rattle.orca_meaning.specs.Names.{with_name}
 use Rattle.macro_meaning.specs.Visit.{Ends, MacroProgram, Move, On, Stops, Visit, most_visits, move_of, setting_of}
 use Rattle.macro_meaning.specs.declared.faults.MacroCause.{MacroCause}
 use Rattle.macro_meaning.specs.declared.faults.MacroCause.TheVariants.{BadArguments, BadSetting, Counter, LineTooLong, Memory, NoSequenceSymbol, NoSuchSymbol, Noted, TooManyLines}
@@ -67,7 +68,7 @@ given_by _ _ = []
 abbrev pub IsVisitOf : MacroProgram → List Visit → Visit → Line → Bool → List Line → Move → Type 0
 IsVisitOf program before v line full given move = elim full [
   | true ↦ (given ≡ []) × (move ≡ Stops line TooManyLines)
-  | false ↦ (effect_done : Effect) × IsEffect (setting_of program v line.number) line effect_done × (given ≡ given_by line effect_done) × (move ≡ move_of program before v line effect_done)
+  | false ↦ (effect : Effect) × IsEffect (setting_of program v line.number) line effect × (given ≡ given_by line effect) × (move ≡ move_of program before v line effect)
 ]
 
 abbrev pub IsVisitAt : MacroProgram → List Visit → Visit → Option Line → List Line → Move → Type 0
@@ -90,16 +91,16 @@ going (Err cause) = Fail cause
 
 -- `e,.NAME`
 abbrev pub IsBranchIf : Values → List (List ℕ) → Effect → Type 0
-IsBranchIf values operands effect_done = elim operands [
-  | condition ∷ target ∷ [] ↦ (answer : Answer) × IsCondition values condition answer × (effect_done ≡ going (pair_or_earlier_fault answer (or_bad (target_name target))))
-  | _ ↦ effect_done ≡ Fail BadSetting
+IsBranchIf values operands effect = elim operands [
+  | condition ∷ target ∷ [] ↦ (answer : Answer) × IsCondition values condition answer × (effect ≡ going (pair_or_earlier_fault answer (or_bad (target_name target))))
+  | _ ↦ effect ≡ Fail BadSetting
 ]
 
 -- `'text',n`
 abbrev pub IsNote : Values → List (List ℕ) → Effect → Type 0
-IsNote values operands effect_done = elim operands [
-  | message ∷ severity ∷ [] ↦ (answer : Answer) × IsNumber values severity answer × (effect_done ≡ noting (pair_or_earlier_fault (or_bad (unquoted_text message)) answer))
-  | _ ↦ effect_done ≡ Fail BadSetting
+IsNote values operands effect = elim operands [
+  | message ∷ severity ∷ [] ↦ (answer : Answer) × IsNumber values severity answer × (effect ≡ noting (pair_or_earlier_fault (or_bad (unquoted_text message)) answer))
+  | _ ↦ effect ≡ Fail BadSetting
 ]
 
 -- a number as SETA and SETB print it
@@ -158,25 +159,25 @@ calling_if root text place found label operand = elim found [
 
 -- a statement, a call of a macro, or a line that is given; a line without operation is read as ANOP
 abbrev pub IsDoneBy : SymbolSetting → List ℕ → LineFields → Option Statement → Effect → Type 0
-IsDoneBy s text fields found effect_done = elim found [
-  | Some statement ↦ IsDone s.values statement text (part text fields.label) (part text fields.operand) effect_done
-  | None ↦ effect_done ≡ calling_at s.definitions s.root text (first_named (folded (part text fields.operation)) s.definitions) (part text fields.label) (part text fields.operand)
+IsDoneBy s text fields found effect = elim found [
+  | Some statement ↦ IsDone s.values statement text (part text fields.label) (part text fields.operand) effect
+  | None ↦ effect ≡ calling_at s.definitions s.root text (first_named (folded (part text fields.operation)) s.definitions) (part text fields.label) (part text fields.operand)
 ]
 
 abbrev pub IsAfterCut : SymbolSetting → Bool → List ℕ → Effect → Type 0
-IsAfterCut s comment text effect_done = elim comment [ true ↦ effect_done ≡ NoEffect | false ↦ IsStatement s text (three_fields text) effect_done ]
+IsAfterCut s comment text effect = elim comment [ true ↦ effect ≡ NoEffect | false ↦ IsStatement s text (three_fields text) effect ]
 
 abbrev pub begins_definition : SymbolSetting → Line → Bool
 begins_definition s line = if s.in_source then operation_is (codes "MACRO") line else false
 
 abbrev pub IsShort : SymbolSetting → Line → Bool → List ℕ → Effect → Type 0
-IsShort s line long text effect_done = elim long [ true ↦ effect_done ≡ Fail LineTooLong | false ↦ IsAfterText s (begins_definition s line) text effect_done ]
+IsShort s line long text effect = elim long [ true ↦ effect ≡ Fail LineTooLong | false ↦ IsAfterText s (begins_definition s line) text effect ]
 
 -- with the symbols' texts in place
 abbrev pub IsWithTexts : SymbolSetting → Line → Option (List ℕ) → Effect → Type 0
-IsWithTexts s line found effect_done = elim found [
-  | None ↦ effect_done ≡ Fail NoSuchSymbol
-  | Some text ↦ IsShort s line (nat_lt 255 (length text)) text effect_done
+IsWithTexts s line found effect = elim found [
+  | None ↦ effect ≡ Fail NoSuchSymbol
+  | Some text ↦ IsShort s line (nat_lt 255 (length text)) text effect
 ]
 
 -- the text of a line with the symbols' texts in place
@@ -184,7 +185,7 @@ abbrev pub substituted_line : Values → Line → Option (List ℕ)
 substituted_line values line = substituted_from (text_of values) (naming_at line.text line.fields) 0 0 line.text
 
 abbrev pub IsWritten : SymbolSetting → Line → Bool → Effect → Type 0
-IsWritten s line comment effect_done = elim comment [ true ↦ effect_done ≡ NoEffect | false ↦ IsWithTexts s line (substituted_line s.values line) effect_done ]
+IsWritten s line comment effect = elim comment [ true ↦ effect ≡ NoEffect | false ↦ IsWithTexts s line (substituted_line s.values line) effect ]
 
 -- what a declaration does where its name is this already, and else another effect
 abbrev pub declared_again : Declaration → Option Symbol → Effect → Effect

@@ -37,18 +37,18 @@ a_condition values text go = by_comparison (comparison text) go
 
 -- ---- statements
 
-a_setting : (values : Values) (kind : SymbolKind) (label operand : List ℕ) → ((effect_done : Effect) → IsSetting values kind label operand effect_done → ⊥) → ⊥
+a_setting : (values : Values) (kind : SymbolKind) (label operand : List ℕ) → ((effect : Effect) → IsSetting values kind label operand effect → ⊥) → ⊥
 a_setting values Number label operand go = a_condition values operand (λ answer is. go (setting values Number label (printed_answer Number answer)) (answer, is, refl))
 a_setting values Flag label operand go = a_condition values operand (λ answer is. go (setting values Flag label (printed_answer Flag answer)) (answer, is, refl))
 a_setting values Text label operand go = go (setting values Text label (or_bad (joined_texts (pieces ascii.plus operand)))) refl
 
-a_branch : (values : Values) (operands : List (List ℕ)) → ((effect_done : Effect) → IsBranchIf values operands effect_done → ⊥) → ⊥
+a_branch : (values : Values) (operands : List (List ℕ)) → ((effect : Effect) → IsBranchIf values operands effect → ⊥) → ⊥
 a_branch values [] go = go (Fail BadSetting) refl
 a_branch values (condition ∷ []) go = go (Fail BadSetting) refl
 a_branch values (condition ∷ target ∷ []) go = a_condition values condition (λ answer is. go (going (pair_or_earlier_fault answer (or_bad (target_name target)))) (answer, is, refl))
 a_branch values (condition ∷ target ∷ other ∷ more) go = go (Fail BadSetting) refl
 
-a_middle : (values : Values) (label : List ℕ) (operands : List (List ℕ)) → ((effect_done : Effect) → IsMiddle values label operands effect_done → ⊥) → ⊥
+a_middle : (values : Values) (label : List ℕ) (operands : List (List ℕ)) → ((effect : Effect) → IsMiddle values label operands effect → ⊥) → ⊥
 a_middle values label [] go = go (setting values Text label (Err BadSetting)) refl
 a_middle values label (text ∷ []) go = go (setting values Text label (Err BadSetting)) refl
 a_middle values label (text ∷ start ∷ []) go = go (setting values Text label (Err BadSetting)) refl
@@ -56,13 +56,13 @@ a_middle values label (text ∷ start ∷ count ∷ []) go =
     a_number values start (λ s of_start. a_number values count (λ n of_count. go (setting values Text label (middle_of (pair_or_earlier_fault (or_bad (unquoted_text text)) (pair_or_earlier_fault s n)))) (s, n, of_start, of_count, refl)))
 a_middle values label (text ∷ start ∷ count ∷ other ∷ more) go = go (setting values Text label (Err BadSetting)) refl
 
-a_note : (values : Values) (operands : List (List ℕ)) → ((effect_done : Effect) → IsNote values operands effect_done → ⊥) → ⊥
+a_note : (values : Values) (operands : List (List ℕ)) → ((effect : Effect) → IsNote values operands effect → ⊥) → ⊥
 a_note values [] go = go (Fail BadSetting) refl
 a_note values (text ∷ []) go = go (Fail BadSetting) refl
 a_note values (text ∷ severity ∷ []) go = a_number values severity (λ answer is. go (noting (pair_or_earlier_fault (or_bad (unquoted_text text)) answer)) (answer, is, refl))
 a_note values (text ∷ severity ∷ other ∷ more) go = go (Fail BadSetting) refl
 
-a_statement : (values : Values) (statement : Statement) (text label operand : List ℕ) → ((effect_done : Effect) → IsDone values statement text label operand effect_done → ⊥) → ⊥
+a_statement : (values : Values) (statement : Statement) (text label operand : List ℕ) → ((effect : Effect) → IsDone values statement text label operand effect → ⊥) → ⊥
 a_statement values (Declare declaration) text label operand go = go (declaring values declaration (symbol_name operand)) refl
 a_statement values (Set kind) text label operand go = a_setting values kind label operand go
 a_statement values Middle text label operand go = a_middle values label (pieces ascii.comma operand) go
@@ -76,31 +76,31 @@ a_statement values Define text label operand go = go (Emit text) refl
 
 -- ---- lines
 
-done_by : (s : SymbolSetting) (text : List ℕ) (fields : LineFields) (o : Option Statement) → ((effect_done : Effect) → IsDoneBy s text fields o effect_done → ⊥) → ⊥
+done_by : (s : SymbolSetting) (text : List ℕ) (fields : LineFields) (o : Option Statement) → ((effect : Effect) → IsDoneBy s text fields o effect → ⊥) → ⊥
 done_by s text fields (Some statement) go = a_statement s.values statement text (part text fields.label) (part text fields.operand) go
 done_by s text fields None go = go _ refl
 
-after_cut : (s : SymbolSetting) (comment : Bool) (text : List ℕ) → ((effect_done : Effect) → IsAfterCut s comment text effect_done → ⊥) → ⊥
+after_cut : (s : SymbolSetting) (comment : Bool) (text : List ℕ) → ((effect : Effect) → IsAfterCut s comment text effect → ⊥) → ⊥
 after_cut s true text go = go NoEffect refl
 after_cut s false text go = done_by s text (three_fields text) (operation_or_anop (part text (three_fields text).operation)) go
 
-after_text : (s : SymbolSetting) (begins : Bool) (text : List ℕ) → ((effect_done : Effect) → IsAfterText s begins text effect_done → ⊥) → ⊥
+after_text : (s : SymbolSetting) (begins : Bool) (text : List ℕ) → ((effect : Effect) → IsAfterText s begins text effect → ⊥) → ⊥
 after_text s true text go = go NoEffect refl
 after_text s false text go = after_cut s (is_comment (without_sequence_symbol text)) (without_sequence_symbol text) go
 
-of_length : (s : SymbolSetting) (line : Line) (long : Bool) (text : List ℕ) → ((effect_done : Effect) → IsShort s line long text effect_done → ⊥) → ⊥
+of_length : (s : SymbolSetting) (line : Line) (long : Bool) (text : List ℕ) → ((effect : Effect) → IsShort s line long text effect → ⊥) → ⊥
 of_length s line true text go = go (Fail LineTooLong) refl
 of_length s line false text go = after_text s (begins_definition s line) text go
 
-with_texts : (s : SymbolSetting) (line : Line) (o : Option (List ℕ)) → ((effect_done : Effect) → IsWithTexts s line o effect_done → ⊥) → ⊥
+with_texts : (s : SymbolSetting) (line : Line) (o : Option (List ℕ)) → ((effect : Effect) → IsWithTexts s line o effect → ⊥) → ⊥
 with_texts s line None go = go (Fail NoSuchSymbol) refl
 with_texts s line (Some text) go = of_length s line (nat_lt 255 (length text)) text go
 
-as_written : (s : SymbolSetting) (line : Line) (comment : Bool) → ((effect_done : Effect) → IsWritten s line comment effect_done → ⊥) → ⊥
+as_written : (s : SymbolSetting) (line : Line) (comment : Bool) → ((effect : Effect) → IsWritten s line comment effect → ⊥) → ⊥
 as_written s line true go = go NoEffect refl
 as_written s line false go = with_texts s line (substituted_line s.values line) go
 
-a_effect : (s : SymbolSetting) (line : Line) → ((effect_done : Effect) → IsEffect s line effect_done → ⊥) → ⊥
+a_effect : (s : SymbolSetting) (line : Line) → ((effect : Effect) → IsEffect s line effect → ⊥) → ⊥
 a_effect s line go = as_written s line (is_comment line.text) go
 
 -- ---- visits
@@ -111,7 +111,7 @@ a_visit program before v go = by_line (line_at program v.macro v.line) go
     by_count : (line : Line) (full : Bool) → ((given : List Line) (move : Move) → IsVisitOf program before v line full given move → ⊥) → ⊥
     by_count line true go = go [] (Stops line TooManyLines) (refl, refl)
     by_count line false go =
-        a_effect (setting_of program v line.number) line (λ effect_done is. go (given_by line effect_done) (move_of program before v line effect_done) (effect_done, is, refl, refl))
+        a_effect (setting_of program v line.number) line (λ effect is. go (given_by line effect) (move_of program before v line effect) (effect, is, refl, refl))
 
     by_line : (o : Option Line) → ((given : List Line) (move : Move) → IsVisitAt program before v o given move → ⊥) → ⊥
     by_line None go = go [] Ends (refl, refl)

@@ -6,7 +6,7 @@ use Rattle.omf_format.specs.Expression.{Term, Operator, terms_of}
 use Rattle.orca_meaning.specs.declared.operators.Operator as declared_operator
 use Rattle.orca_meaning.specs.declared.operators.Operator.TheVariants.{Multiply, Divide, Shift, Add, Subtract, Less, Greater, LessOrEqual, GreaterOrEqual, NotEqual, Equal, And, Or, Eor}
 use Rattle.orca_meaning.specs.Token.{Token, Between, Closes}
-use Rattle.orca_meaning.specs.Formula.{sign_code, operator_code, operator_level, term_of, Formula, Single, Group, Signed, Joined, level_of, IsFormula, tokens_of, tree_of}
+use Rattle.orca_meaning.specs.Formula.{sign_code, operator_code, operator_level, term_of, Formula, Single, Group, Signed, Joined, level_of, BindsByLevel, tokens_of, tree_of}
 use Rattle.orca_meaning.specs.laws.Machine.{Wait, Bracket, Pending, State, state, reduced, closed, step, and_then, run, ended, finish, start, postfix}
 
 -- the levels of operators between two
@@ -95,7 +95,7 @@ pub record Left (f : Formula) (out : List Term) (ws : List Wait) (more : List To
   pub same : out' ++ codes extras ≡ out ++ terms_of (tree_of f)
   pub goes : run (state out ws true) (tokens_of f ++ more) ≡ run (state out' (extras ++ ws) false) more
 
-reads : (f : Formula) (out : List Term) (ws : List Wait) (more : List Token) → IsFormula f → IsRoom (level_of f) ws → Left f out ws more
+reads : (f : Formula) (out : List Term) (ws : List Wait) (more : List Token) → BindsByLevel f → IsRoom (level_of f) ws → Left f out ws more
 unfolding run step and_then closed
 reads (Single operand) out ws more is room =
     record { out' = out ++ term_of operand ∷ []; extras = []; tight = tt; same = append-nil (out ++ term_of operand ∷ []); goes = refl }
@@ -142,7 +142,7 @@ reads (Joined operator left right) out ws more is room =
     }
 
 -- the tokens of a formula are read to its postfix form
-pub complete : (f : Formula) → IsFormula f → postfix (tokens_of f) ≡ Some (terms_of (tree_of f))
+pub complete : (f : Formula) → BindsByLevel f → postfix (tokens_of f) ≡ Some (terms_of (tree_of f))
 unfolding postfix run finish ended
 complete f is =
     let r = reads f [] [] [] is (λ two. tt) in
@@ -153,7 +153,7 @@ complete f is =
     ap finish front ∙ ap ended all
 
 -- two formulas that are written alike have one postfix form
-pub one_form : (f g : Formula) → IsFormula f → IsFormula g → tokens_of f ≡ tokens_of g → terms_of (tree_of f) ≡ terms_of (tree_of g)
+pub one_form : (f g : Formula) → BindsByLevel f → BindsByLevel g → tokens_of f ≡ tokens_of g → terms_of (tree_of f) ≡ terms_of (tree_of g)
 one_form f g p q same = some_is (terms_of (tree_of f)) (terms_of (tree_of g)) (sym (complete f p) ∙ ap postfix same ∙ complete g q)
   where
     some_is : (a b : List Term) → Some a ≡ Some b → a ≡ b

@@ -5,7 +5,7 @@ use Rattle.omf_format.specs.Expression.{Term, Operator, terms_of}
 use Rattle.orca_meaning.specs.declared.operators.Operator as operators
 use Rattle.orca_meaning.specs.declared.operators.Sign as signs
 use Rattle.orca_meaning.specs.Token.{Token, Value, Before, Between, Opens, Closes}
-use Rattle.orca_meaning.specs.Formula.{sign_code, operator_code, operator_level, term_of, Formula, Single, Group, Signed, Joined, level_of, IsFormula, tokens_of, tree_of}
+use Rattle.orca_meaning.specs.Formula.{sign_code, operator_code, operator_level, term_of, Formula, Single, Group, Signed, Joined, level_of, BindsByLevel, tokens_of, tree_of}
 use Rattle.orca_meaning.specs.laws.Machine.{Wait, Bracket, Pending, State, state, reduced, closed, step, and_then, run, ended, finish, start, postfix}
 use Rattle.orca_meaning.specs.laws.Complete.{IsLooser, operator_levels}
 
@@ -38,7 +38,7 @@ AreFrames [] = Unit {0}
 AreFrames (InGroup ∷ fs) = AreFrames fs
 AreFrames (AtSign sign ∷ fs) = AreFrames fs
 AreFrames (AtRight operator left ∷ fs) =
-    (level_of left ≤ operator_level operator) × IsLooser (operator_level operator) (waits fs) × IsFormula left × AreFrames fs
+    (level_of left ≤ operator_level operator) × IsLooser (operator_level operator) (waits fs) × BindsByLevel left × AreFrames fs
 
 -- a formula of this level may be the operand that is read
 abbrev pub HasPlace : ℕ → List Frame → Type 0
@@ -55,7 +55,7 @@ pub record Reading (out : List Term) (ws : List Wait) (read : List Token) (fs : 
 
 pub record Holding (out : List Term) (ws : List Wait) (read : List Token) (fs : List Frame) (f : Formula) : Type 0 where
   pub frames : AreFrames fs
-  pub formed : IsFormula f
+  pub formed : BindsByLevel f
   pub place : HasPlace (level_of f) fs
   pub waiting : ws ≡ waits fs
   pub gone : out ≡ outs fs ++ terms_of (tree_of f)
@@ -81,7 +81,7 @@ sign_has_place (InGroup ∷ fs) is = tt
 sign_has_place (AtSign sign ∷ fs) is = omega arith
 sign_has_place (AtRight operator left ∷ fs) is = omega (arith, (operator_levels operator).0)
 
-close_all : (level : ℕ) (fs : List Frame) (f : Formula) → 1 ≤ level → AreFrames fs → IsFormula f → HasPlace (level_of f) fs → level_of f ≤ level
+close_all : (level : ℕ) (fs : List Frame) (f : Formula) → 1 ≤ level → AreFrames fs → BindsByLevel f → HasPlace (level_of f) fs → level_of f ≤ level
     → Closed level (toks fs ++ tokens_of f) (reduced level (outs fs ++ terms_of (tree_of f)) (waits fs))
 unfolding reduced
 close_all level [] f one are is place tight = record { fs = []; f = f; holds = record { frames = tt; formed = is; place = tt; waiting = refl; gone = refl; written = refl }; tight = tight; looser = tt }
@@ -121,7 +121,7 @@ no_place (InGroup ∷ fs) is = tt
 no_place (AtSign sign ∷ fs) is = omega arith
 no_place (AtRight operator left ∷ fs) is = omega (arith, (operator_levels operator).0)
 
-closes_group : (out : List Term) (fs : List Frame) (f : Formula) (read : List Token) (s' : State) → AreFrames fs → IsFormula f → IsLooser 6 (waits fs)
+closes_group : (out : List Term) (fs : List Frame) (f : Formula) (read : List Token) (s' : State) → AreFrames fs → BindsByLevel f → IsLooser 6 (waits fs)
     → read ≡ toks fs ++ tokens_of f → out ≡ outs fs ++ terms_of (tree_of f) → closed (out, waits fs) ≡ Some s' → Stands s' (read ++ Closes ∷ [])
 unfolding closed
 closes_group out [] f read s' are is looser written gone e = absurd cc
@@ -205,11 +205,11 @@ stands_through (t ∷ ts) s read s' st e =
 -- the formula whose tokens were read
 pub record FormulaOf (tokens : List Token) (items : List Term) : Type 0 where
   pub f : Formula
-  pub formed : IsFormula f
+  pub formed : BindsByLevel f
   pub written : tokens_of f ≡ tokens
   pub postfix_is : terms_of (tree_of f) ≡ items
 
-ends_with : (out : List Term) (fs : List Frame) (f : Formula) (tokens : List Token) (items : List Term) → IsLooser 6 (waits fs) → AreFrames fs → IsFormula f
+ends_with : (out : List Term) (fs : List Frame) (f : Formula) (tokens : List Token) (items : List Term) → IsLooser 6 (waits fs) → AreFrames fs → BindsByLevel f
     → tokens ≡ toks fs ++ tokens_of f → out ≡ outs fs ++ terms_of (tree_of f) → ended (out, waits fs) ≡ Some items → FormulaOf tokens items
 unfolding ended
 ends_with out [] f tokens items looser are is written gone e = record { f = f; formed = is; written = sym written; postfix_is = sym gone ∙ items_same out items e }

@@ -14,7 +14,7 @@ use Rattle.orca_meaning.specs.declared.operators.Operands.TheVariants.{Labels, S
 use Rattle.orca_meaning.specs.declared.operators.Operator as operators
 use Rattle.orca_meaning.specs.declared.operators.Sign as signs_type
 use Rattle.orca_meaning.specs.Characters.{is_name_start, is_name_byte, folded}
-use Rattle.orca_meaning.specs.Token.{Operand, Here, Number, Label, LengthOf, CountOf, Token, Value, Before, Between, Opens, Closes, Found, seen_as, digits_at, text_at, number_at, name_at, symbol_at, attribute_at, location_at, operand_at, spelled_at, sign_at, operator_at, byte_at, operand_token_at, operator_token_at, token_at, expects_following, Stand, asked_by}
+use Rattle.orca_meaning.specs.Token.{Operand, Here, Number, Label, LengthOf, CountOf, Token, Value, Before, Between, Opens, Closes, Found, seen_as, digits_at, quoted_number_at, number_at, name_at, symbol_at, attribute_at, location_at, operand_at, spelled_at, sign_at, operator_at, byte_at, operand_token_at, operator_token_at, token_at, expects_following, Stand, asked_by}
 use Rattle.orca_meaning.specs.laws.Steps.{other_operand_at, signs, operators}
 
 -- ---- what is found
@@ -45,8 +45,8 @@ digits-shorter base text = by_test (eqb n 0) refl
         let some : n ≡ 0 → ⊥ = eqb-false n 0 test in
         omega (arith, length-drop n text, prefix_len-le-length (λ byte. is_digit byte base) text)
 
-text-shorter : (quote : ℕ) (following : List ℕ) → IsShorter following (text_at quote following)
-unfolding text_at
+text-shorter : (quote : ℕ) (following : List ℕ) → IsShorter following (quoted_number_at quote following)
+unfolding quoted_number_at
 text-shorter quote following = by_test (leb 1 n && leb n 4 && ltb n (length following)) refl
   where
     n : ℕ

@@ -1,6 +1,6 @@
 use Rattle.std.proofs.Common.{List, ℕ, sym, subst}
 use Rattle.omf_c.specs.Making.{Assembles, contents}
-use Rattle.asm_meaning.specs.Object.{IsAsmFault}
+use Rattle.source_meaning.specs.Object.{IsAsmFault}
 use Rattle.omf_c.proofs.Faults.{asm_first}
 use Rattle.omf_c.proofs.Files.{reported_makes}
 use Rattle.omf_c.proofs.making.assemble_to_answer.Goals as goal

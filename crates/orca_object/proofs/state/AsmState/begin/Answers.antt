@@ -1,5 +1,5 @@
 use Rattle.std.proofs.Common.{ℕ, ◌+◌, List, None, length, replicate, refl, sym, ap, ◌∙◌}
-use Rattle.macro_meaning.specs.Symbol.{with_name}
+use Rattle.orca_meaning.specs.Names.{with_name}
 use Rattle.asm_meaning.specs.Object.{records_text}
 use Rattle.asm_meaning.specs.State.{Names, no_names}
 use Rattle.orca_operands.specs.TextView.{text_within_limit, kept_text}

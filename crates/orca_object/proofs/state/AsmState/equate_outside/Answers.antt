@@ -1,5 +1,5 @@
 use Rattle.std.proofs.Common.{refl, ap, ◌∙◌}
-use Rattle.macro_meaning.specs.Symbol.{with_name}
+use Rattle.orca_meaning.specs.Names.{with_name}
 use Rattle.asm_meaning.specs.Constant as meaning
 use Rattle.orca_object.proofs.States.{constant_more, constant_waits}
 use Rattle.orca_object.proofs.state.AsmState.equate_outside.Goals as goal

@@ -1,0 +1,6 @@
+//! That a listing is assembled to the same content: what its lines represent, and the laws on it.
+#![tactic(auto)]
+
+mod laws;
+
+pub use laws::listings_are_read_again;

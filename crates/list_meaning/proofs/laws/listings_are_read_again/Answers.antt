@@ -1,8 +1,0 @@
-use Rattle.list_meaning.specs.laws.ListingProofs.{line_is_read, read_again}
-use Rattle.list_meaning.proofs.laws.listings_are_read_again.Goals as goal
-
-pub returns-clause-line : goal.returns-clause-line
-returns-clause-line c = line_is_read
-
-pub returns-clause-whole : goal.returns-clause-whole
-returns-clause-whole c = read_again

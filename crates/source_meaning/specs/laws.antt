@@ -1,0 +1,4 @@
+pub mod LinesShort
+pub mod ObjectFileProofs
+pub mod ObjectProofs
+pub mod Unanswered
