@@ -4,7 +4,7 @@ use Rattle.std.specs.Option.{option_or}
 use Rattle.asm_meaning.specs.Constant as meaning
 use Rattle.asm_meaning.specs.State as state
 use Rattle.asm_meaning.specs.Statement.{value_in}
-use Rattle.orca_operands.specs.Held.{value_of_name}
+use Rattle.name_map.specs.Held.{value_of_name}
 use Rattle.orca_operands.specs.declared.names.DefinedNames.{DefinedNames}
 use Rattle.orca_operands.specs.declared.names.OutsideConstants.{OutsideConstants}
 use Rattle.orca_operands.specs.declared.names.KnownConstants.{KnownConstants}

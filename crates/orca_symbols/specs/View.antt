@@ -12,7 +12,7 @@ use Rattle.orca_symbols.specs.declared.symbols.SharedText.{SharedText}
 use Rattle.orca_symbols.specs.declared.symbols.Symbols.{Symbols}
 use Rattle.orca_symbols.specs.declared.symbols.SharedTextTable.{SharedTextTable}
 use Rattle.orca_symbols.specs.declared.symbols.Values.{Values}
-use Rattle.orca_symbols.specs.Held.{value_of_name}
+use Rattle.name_map.specs.Held.{value_of_name}
 
 abbrev pub symbol : Symbol → meaning.Symbol
 symbol (Own kind text) = meaning.Own kind text
