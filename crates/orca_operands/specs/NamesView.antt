@@ -9,12 +9,15 @@ use Rattle.orca_operands.specs.declared.names.DefinedNames.{DefinedNames}
 use Rattle.orca_operands.specs.declared.names.OutsideConstants.{OutsideConstants}
 use Rattle.orca_operands.specs.declared.names.KnownConstants.{KnownConstants}
 
+-- the names of a segment
 abbrev pub names_of : DefinedNames → state.Names
 names_of names name = value_of_name names.map name
 
+-- the constants from outside segments
 abbrev pub outside_of : OutsideConstants → meaning.Constants
 outside_of outside name = value_of_name outside.map name
 
+-- the constants among the names of a segment, if one is open
 abbrev pub value_in_names : Option DefinedNames → meaning.Constants
 value_in_names None name = None
 value_in_names (Some names) name = value_in (names_of names name)
