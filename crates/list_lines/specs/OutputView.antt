@@ -3,6 +3,7 @@ use Rattle.std.specs.Prelude.{ℕ, Bool, true, false, not, ◌&&◌, nat_lt, Lis
 use Rattle.list_lines.specs.declared.output.ListingText.{ListingText}
 use Rattle.list_lines.specs.Kept.{Kept}
 
+-- the text with its number of lines, unless it became too long
 abbrev pub kept_by : Bool → List ℕ → ℕ → Kept
 kept_by true text lines = None
 kept_by false text lines = Some (text, lines)

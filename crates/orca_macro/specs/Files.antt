@@ -24,6 +24,7 @@ IsTextFaultFor TooManyLines first fault = first ≡ Some fault
 IsTextFaultFor Memory first fault = (fault.file ≡ 0) × (fault.line ≡ 0)
 IsTextFaultFor _ _ _ = ⊥
 
+-- the fault of the first file that can't be read
 abbrev pub IsTextFault : Option MacroFault → MacroFault → Type 0
 IsTextFault first fault = IsTextFaultFor fault.cause first fault
 
@@ -50,6 +51,7 @@ unfoldable pub first_part_in : List (List Line) → Option MacroFault
 first_part_in [] = None
 first_part_in (lines ∷ more) = or_else (line_fault_of (first_part_fault (parts_of None lines))) (first_part_in more)
 
+-- the definitions of macro files, in order
 unfoldable pub definitions_of : List (List Line) → List MacroDefinition
 definitions_of [] = []
 definitions_of (lines ∷ more) = definitions_in false (parts_of None lines) ++ definitions_of more

@@ -26,6 +26,7 @@ pub record HasHead (h : LineHead) (text : List ℕ) : Type 0 where
 pub record IsHead (h : LineHead) (front : List ℕ) : Type 0 where
   pub is : (following : List ℕ) → HasHead h (front ++ following)
 
+-- what is known of the start of a line, where something is
 abbrev pub MayHaveHead : Option LineHead → List ℕ → Type 0
 MayHaveHead None text = Unit {0}
 MayHaveHead (Some h) text = HasHead h text

@@ -8,6 +8,7 @@ use Rattle.macro_meaning.specs.Expansion.{line_fault_of}
 use Rattle.orca_macro.specs.declared.definitions.MacroDefinition.{MacroDefinition}
 use Rattle.orca_symbols.specs.ModelView.{model}
 
+-- a macro
 abbrev pub definition : MacroDefinition → meaning.MacroDefinition
 definition d = record { model = model d.model; visible_after = d.visible_after; body = d.body }
 

@@ -25,6 +25,7 @@ known_effect Leaves = Some meaning.Exit
 pub record IsAlwaysDone (statement : Statement) (text label operand : List ℕ) (effect_done : meaning.Effect) : Type 0 where
   pub is : (values : Values) → IsDone values statement text label operand effect_done
 
+-- what is known of a statement's effect is so whatever the symbols are
 abbrev pub FitsDone : Statement → List ℕ → List ℕ → List ℕ → Option meaning.Effect → Type 0
 FitsDone statement text label operand None = Unit {0}
 FitsDone statement text label operand (Some effect_done) = IsAlwaysDone statement text label operand effect_done
@@ -33,6 +34,7 @@ FitsDone statement text label operand (Some effect_done) = IsAlwaysDone statemen
 pub record IsAlwaysStatement (text : List ℕ) (effect_done : meaning.Effect) : Type 0 where
   pub is : (s : SymbolSetting) → IsStatement s text (three_fields text) effect_done
 
+-- what is known of the effect of a line without symbols is so wherever the line is
 abbrev pub FitsStatement : List ℕ → Option meaning.Effect → Type 0
 FitsStatement text None = Unit {0}
 FitsStatement text (Some effect_done) = IsAlwaysStatement text effect_done
@@ -45,6 +47,7 @@ pub record IsAlways (line : Line) (effect_done : meaning.Effect) : Type 0 where
 pub record IsGiven (definitions : List MacroDefinition) (line : Line) : Type 0 where
   pub is : (s : SymbolSetting) → s.definitions ≡ definitions → IsEffect s line (meaning.Emit line.text)
 
+-- what is known of a line's effect is so wherever the line is
 abbrev pub FitsLine : Line → Option meaning.Effect → Type 0
 FitsLine line None = Unit {0}
 FitsLine line (Some effect_done) = IsAlways line effect_done

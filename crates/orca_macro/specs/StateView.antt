@@ -12,6 +12,7 @@ use Rattle.orca_symbols.specs.View.{texts_of}
 abbrev pub StandsIn : List Visit → Visit → ExpansionState → Type 0
 StandsIn before v s = Stands before v (frame s.scope) (stack_of s.frames) (texts_of s.texts) s.calls
 
+-- the state is that of the next visit, or nothing follows, as this move says
 abbrev pub MovesIn : Move → List Visit → Line → Flow → ExpansionState → Type 0
 MovesIn move before line outcome s = MovesTo move before line outcome (frame s.scope) (stack_of s.frames) (texts_of s.texts) s.calls
 

@@ -3,14 +3,14 @@
 ghost use Rattle.std.specs.Prelude.{◌≡◌, ◌≤◌, ◌<◌, ◌+◌, ◌^◌, ◌∷◌, ◌++◌, [], List, ℕ, length, slice_get, take, bytes_eq, Some, None, IfOk, IfSome, OnOk, MatchOption, if◌then◌else◌};
 ghost use Rattle.macro_meaning.specs.Visit.{places_from, target_of, has_sequence};
 ghost use Rattle.orca_meaning.specs.Line.{HaveFields, fields_of, part};
-ghost use Rattle.orca_symbols.specs.Held.{value_of_name};
+ghost use Rattle.name_map.specs.Held.{value_of_name};
 ghost use Rattle.orca_macro.specs.DefinitionView.{summary, with_place};
 ghost use Rattle.orca_macro.specs.Plan.{HavePlans, FitsAt};
 ghost use Rattle.orca_text.specs.View.{line};
 
 use crate::plan::{LinePlan, plan_of};
-use indexmap::IndexMap;
-use orca_symbols::{get_by_name, insert_by_name, sequence_name};
+use name_map::{NameMap, get_by_name, insert_by_name};
+use orca_symbols::sequence_name;
 use orca_text::{Lines, SourceLine};
 use std::alloc::{AllocError, Global};
 use std::marker::Model;
@@ -30,7 +30,7 @@ pub(crate) enum BranchTarget {
 pub(crate) struct MacroBody {
     lines: Lines,
     reach: u32,
-    targets: IndexMap<Vec<u8>, BranchTarget>,
+    targets: NameMap<BranchTarget>,
     plans: Vec<LinePlan>,
 }
 
@@ -38,7 +38,7 @@ impl Model for MacroBody {
     ghost use Rattle.std.specs.Prelude.{◌≡◌, ◌≤◌, ℕ, List, length, take};
     ghost use Rattle.macro_meaning.specs.Definition as meaning;
     ghost use Rattle.macro_meaning.specs.Visit.{places_from};
-    ghost use Rattle.orca_symbols.specs.Held.{value_of_name};
+    ghost use Rattle.name_map.specs.Held.{value_of_name};
     ghost use Rattle.orca_macro.specs.DefinitionView.{summary};
     ghost use Rattle.orca_macro.specs.Plan.{HavePlans};
 
@@ -52,7 +52,7 @@ impl Model for MacroBody {
 /// One more line with this sequence symbol.
 fn add(
     alloc: Global,
-    targets: &mut IndexMap<Vec<u8>, BranchTarget>,
+    targets: &mut NameMap<BranchTarget>,
     name: &[u8],
     at: u32,
 ) -> Result<(), AllocError>
@@ -68,7 +68,7 @@ fn add(
 /// The sequence symbol of a line, if it has one.
 fn add_line(
     alloc: Global,
-    targets: &mut IndexMap<Vec<u8>, BranchTarget>,
+    targets: &mut NameMap<BranchTarget>,
     of: &SourceLine,
     at: u32,
 ) -> Result<(), AllocError>
@@ -82,15 +82,11 @@ fn add_line(
 }
 
 /// The sequence symbols of the first `reach` lines.
-fn targets_of(
-    alloc: Global,
-    lines: &Lines,
-    reach: u32,
-) -> Result<IndexMap<Vec<u8>, BranchTarget>, AllocError>
+fn targets_of(alloc: Global, lines: &Lines, reach: u32) -> Result<NameMap<BranchTarget>, AllocError>
     requires { reach ≤ length lines.now }
     ensures { IfOk result (λ targets. (q : List ℕ) → value_of_name targets q ≡ summary (places_from 0 q (take reach lines.now))) }
 {
-    let mut targets = IndexMap::new(alloc);
+    let mut targets = NameMap::new(alloc);
     let mut at = 0;
     'lines: while at < reach {
         let Some(line) = lines.get(at) else {

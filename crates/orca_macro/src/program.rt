@@ -5,7 +5,7 @@ ghost use Rattle.macro_meaning.specs.Definition.{first_named, or_else};
 ghost use Rattle.macro_meaning.specs.Visit.{line_at, body_of, target_of};
 ghost use Rattle.macro_meaning.specs.laws.Steps.{no_body};
 ghost use Rattle.orca_meaning.specs.Line.{HaveFields, fields_of};
-ghost use Rattle.orca_symbols.specs.Held.{value_of_name};
+ghost use Rattle.name_map.specs.Held.{value_of_name};
 ghost use Rattle.orca_macro.specs.Parts.{definition};
 ghost use Rattle.orca_macro.specs.Plan.{Fits};
 ghost use Rattle.orca_text.specs.View.{line};
@@ -13,8 +13,7 @@ ghost use Rattle.orca_text.specs.View.{line};
 use crate::body::MacroBody;
 use crate::definitions::MacroDefinition;
 use crate::plan::LinePlan;
-use indexmap::IndexMap;
-use orca_symbols::{get_by_name, insert_by_name};
+use name_map::{NameMap, get_by_name, insert_by_name};
 use orca_text::SourceLine;
 use std::alloc::{AllocError, Global};
 use std::marker::Model;
@@ -24,14 +23,14 @@ use std::marker::Model;
 pub(crate) struct MacroProgram {
     source: MacroBody,
     definitions: Vec<MacroDefinition>,
-    names: IndexMap<Vec<u8>, usize>,
+    names: NameMap<usize>,
 }
 
 impl Model for MacroProgram {
     ghost use Rattle.std.specs.Prelude.{◌≡◌, ℕ, List, map};
     ghost use Rattle.macro_meaning.specs.Visit as meaning;
     ghost use Rattle.macro_meaning.specs.Definition.{first_named};
-    ghost use Rattle.orca_symbols.specs.Held.{value_of_name};
+    ghost use Rattle.name_map.specs.Held.{value_of_name};
     ghost use Rattle.orca_macro.specs.Parts.{definition};
 
     ghost Value = { meaning.MacroProgram };
@@ -52,7 +51,7 @@ fn definition_at(definitions: &[MacroDefinition], at: usize) -> Option<&MacroDef
 #[tactic(auto, using(crate::proofs::Firsts::stays, crate::proofs::Firsts::comes))]
 fn add_name(
     alloc: Global,
-    names: &mut IndexMap<Vec<u8>, usize>,
+    names: &mut NameMap<usize>,
     name: &[u8],
     at: usize,
 ) -> Result<(), AllocError>
@@ -66,13 +65,10 @@ fn add_name(
 
 /// The place of each name's first definition.
 #[tactic(auto, using(crate::proofs::Firsts::next_name, crate::proofs::Firsts::all_names))]
-fn names_of(
-    alloc: Global,
-    definitions: &[MacroDefinition],
-) -> Result<IndexMap<Vec<u8>, usize>, AllocError>
+fn names_of(alloc: Global, definitions: &[MacroDefinition]) -> Result<NameMap<usize>, AllocError>
     ensures { IfOk result (λ names. (q : List ℕ) → value_of_name names q ≡ first_named q (map definition definitions.now)) }
 {
-    let mut names = IndexMap::new(alloc);
+    let mut names = NameMap::new(alloc);
     let mut at = 0;
     'definitions: loop {
         let Some(found) = definition_at(definitions, at) else {

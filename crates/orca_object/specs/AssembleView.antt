@@ -29,6 +29,7 @@ pub record Ends (lines : List Line) (k : AsmState) : Type 0 where
   pub steps : AreSteps start lines last
   pub shows : ShowsState last k
 
+-- the state after these lines, or the fault of the first that has one
 abbrev pub HasStepped : List Line → Result AsmState AsmFault → Type 0
 HasStepped lines (Ok k) = Ends lines k
 HasStepped lines (Err fault) = Stops lines fault

@@ -48,6 +48,7 @@ pub record ShowsSegment (s : StartedSegment) (o : OpenSegment) : Type 0 where
   pub names : names_of o.names ≡ s.names
   pub body : ShowsBody (0x37 + length s.header.name) s.body o.body
 
+-- both segments are there, and the one shows the other; or none is
 abbrev pub ShowsOption : Option StartedSegment → Option OpenSegment → Type 0
 ShowsOption None None = Unit {0}
 ShowsOption None (Some o) = ⊥

@@ -14,6 +14,7 @@ use Rattle.orca_object.specs.StateView.{ShowsState}
 abbrev pub IsJudged : State → Line → Operation → Answer (List ℕ) → List ℕ → Answer State → Type 0
 IsJudged state line operation label text answer = (left : Answer State) × IsDone state line operation label text left × (answer ≡ (left >>= within_length))
 
+-- the state is what the line leaves, or the answer is its fault
 abbrev pub Steps : {U : Type 0} → State → Line → Result U AsmCause → AsmState → Type 0
 Steps state line (Ok done) k = (next : State) × IsStep state line (Ok next) × ShowsState next k
 Steps state line (Err cause) k = IsStep state line (Err cause)

@@ -1,45 +1,21 @@
--- What a map has for a name once it was changed.
-use Rattle.std.proofs.Common.{◌≡◌, ℕ, ◌<◌, ◌^◌, arith, Bool, true, false, cond, List, Option, Some, None, refl, sym, ap, subst, ◌∙◌}
+-- Maps of names: without entries, and with values of 32 bits.
+use Rattle.std.proofs.Common.{◌≡◌, ℕ, ◌<◌, ◌^◌, arith, Bool, true, false, cond, List, Option, Some, None, sym, ◌∙◌}
 use Rattle.std.specs.Prelude.{bytes_eq, Result, Ok, Err, OnOk, OnErr}
 use Rattle.std.specs.Global.{Vec}
-use Rattle.std.specs.Cmp.Lexicographic.{bytes_decides, nat_list_eq_equiv}
-use Rattle.std.specs.Map.{IsKeyTest, AreApart, KeepsOthers, lookup}
-use Rattle.indexmap.specs.IndexMap.{IndexMap, UpdatesBy, IsEmpty, IsUnchanged}
+use Rattle.indexmap.specs.IndexMap.{IndexMap, IsEmpty}
 use Rattle.std.proofs.Math.Path.{fun_ext}
 use Rattle.asm_meaning.specs.State.{no_names, no_constants}
-use Rattle.orca_operands.specs.Held.{value_of_name}
+use Rattle.name_map.specs.Held.{value_of_name}
+use Rattle.name_map.proofs.Maps.{empty_held}
 use Rattle.orca_operands.specs.NamesView.{names_of, outside_of}
 use Rattle.orca_operands.specs.declared.names.DefinedNames.{DefinedNames}
 use Rattle.orca_operands.specs.declared.names.OutsideConstants.{OutsideConstants}
-
-apart : (bs cs ks : List ℕ) → bytes_eq bs cs ≡ false → bytes_eq bs ks ≡ true → bytes_eq cs ks ≡ false
-apart bs cs ks n y = nat_list_eq_equiv.symm cs ks ∙ sym (nat_list_eq_equiv.congr bs ks cs y) ∙ n
-
-others : {K X : Type 0} (eq : K → K → Bool) (test : K → Bool) (old new : List (K × X)) → KeepsOthers eq test old new → (other : K → Bool) → IsKeyTest eq other → AreApart test other → lookup other new ≡ lookup other old
-unfolding KeepsOthers
-others eq test old new h = h
-
-pub updated : {V S : Type 0} (name : List ℕ) (m n : IndexMap (Vec ℕ) V S) (w : Option V) → UpdatesBy (λ x y. bytes_eq x.items y.items) (λ k. bytes_eq name k.items) m n w
-    → (q : List ℕ) → value_of_name n q ≡ cond (bytes_eq name q) w (value_of_name m q)
-updated name m n w h q = by_test (bytes_eq name q) refl
-  where
-    by_test : (b : Bool) → bytes_eq name q ≡ b → value_of_name n q ≡ cond b w (value_of_name m q)
-    by_test true is = subst (λ (l : List ℕ). value_of_name n l ≡ w) ((bytes_decides name q).0 is) h.1
-    by_test false is = others (λ x y. bytes_eq x.items y.items) (λ k. bytes_eq name k.items) m.entries n.entries h.3 (λ k. bytes_eq q k.items) (λ x y. nat_list_eq_equiv.congr q x.items y.items) (λ k. apart name q k.items is)
-
--- a map without entries
-pub empty_held : {V S : Type 0} (m : IndexMap (Vec ℕ) V S) → IsEmpty m → (q : List ℕ) → value_of_name m q ≡ None
-empty_held m none q = ap (λ es. lookup (λ k. bytes_eq q k.items) es) none
 
 pub no_names_held : (m : DefinedNames) → IsEmpty m.map → names_of m ≡ no_names
 no_names_held m none = fun_ext (λ q. empty_held m.map none q)
 
 pub no_constants_held : (m : OutsideConstants) → IsEmpty m.map → outside_of m ≡ no_constants
 no_constants_held m none = fun_ext (λ q. empty_held m.map none q)
-
--- a map that stays as it is
-pub unchanged : {V S : Type 0} (m n : IndexMap (Vec ℕ) V S) → IsUnchanged m n → (q : List ℕ) → value_of_name n q ≡ value_of_name m q
-unchanged m n same q = ap (λ es. lookup (λ k. bytes_eq q k.items) es) same
 
 -- ---- values of 32 bits
 

@@ -33,6 +33,7 @@ written_terms back (Constant n) = Constant n ∷ []
 written_terms back (Named code name) = Named code name ∷ []
 written_terms back (Offset n) = Offset n ∷ []
 
+-- what is written for all terms of a formula
 abbrev pub all_written : Constants → ℕ → List Term → List Term
 all_written constants back terms = flat_map (λ t. written_terms back (written_term constants t)) terms
 
@@ -40,6 +41,7 @@ all_written constants back terms = flat_map (λ t. written_terms back (written_t
 abbrev pub with_terms : Constants → List Term → List Term
 with_terms constants terms = map (written_term constants) terms
 
+-- a term that needs no name and no place
 abbrev pub is_number_term : Term → Bool
 is_number_term (Operator code) = true
 is_number_term Location = false
@@ -47,12 +49,15 @@ is_number_term (Constant n) = true
 is_number_term (Named code name) = false
 is_number_term (Offset n) = false
 
+-- all terms are numbers and operators, with the values of names in place
 abbrev pub are_numbers : Constants → List Term → Bool
 are_numbers constants terms = list_all (λ t. is_number_term (written_term constants t)) terms
 
+-- no name has a value, and places are 0
 abbrev pub no_environment : Environment
 no_environment = record { label = λ name weak. None; attribute = λ code name. None; location = Fixed 0; start = Fixed 0 }
 
+-- the value of an expression as that of a formula
 abbrev pub worth_of_value : Result Value ValueFault → meaning.KnownValue
 worth_of_value (Ok (Fixed n)) = meaning.Number n
 worth_of_value (Ok (At file segment offset shift)) = meaning.Open
@@ -60,6 +65,7 @@ worth_of_value (Err DivideByZero) = meaning.Divided
 worth_of_value (Err NotRelocatable) = meaning.Open
 worth_of_value (Err (Unknown at)) = meaning.Open
 
+-- the value of a formula
 abbrev pub worth_view : KnownValue → meaning.KnownValue
 worth_view (worths.Number n) = meaning.Number n
 worth_view worths.Open = meaning.Open
@@ -80,18 +86,22 @@ pub data AmountBytes : Type 0 where
   Number : (n : ℕ) → AmountBytes
   Text : (bytes : List ℕ) → AmountBytes
 
+-- an amount as it is kept, where a number is subtracted from the location counter
 abbrev pub kept_of : ℕ → meaning.Amount → AmountBytes
 kept_of back (meaning.Known n) = Number n
 kept_of back (meaning.Written tree) = Text (terms_text 0 (terms_of (placed_by back tree)))
 
+-- an amount as it is kept, or the fault
 abbrev pub kept_answer : ℕ → Answer meaning.Amount → Answer AmountBytes
 kept_answer back (Ok a) = Ok (kept_of back a)
 kept_answer back (Err cause) = Err cause
 
+-- how an amount is seen
 abbrev pub kept_view : Amount → AmountBytes
 kept_view (amounts.Known n) = Number n
 kept_view (amounts.Written text) = Text text.items
 
+-- how an amount or a fault is seen
 abbrev pub amount_view : Result Amount AsmCause → Answer AmountBytes
 amount_view (Ok a) = Ok (kept_view a)
 amount_view (Err cause) = Err cause

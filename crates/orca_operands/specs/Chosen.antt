@@ -14,6 +14,7 @@ use Rattle.orca_operands.specs.declared.amount.Amount as amount_type
 use Rattle.orca_operands.specs.declared.amount.Amount.TheVariants as amounts
 use Rattle.orca_operands.specs.ModeView.{two_test}
 
+-- an instruction with one formula, whose mode is chosen among these
 abbrev pub chosen_amount : Widths → Mnemonic → Prefix → Mode → List Mode → Amount → Answer (List Piece)
 chosen_amount widths mnemonic prefix first modes (Known n) = mode_of_number widths mnemonic prefix n modes >>= λ chosen. Ok (with_known widths mnemonic prefix n chosen)
 chosen_amount widths mnemonic prefix first modes (Written tree) =

@@ -54,6 +54,7 @@ pub record IsKeptOf (terms : List Term) (large : Bool) (tree : Tree) : Type 0 wh
   pub kept : terms ≡ kept_terms (terms_of tree)
   pub large_is : large ≡ has_large tree
 
+-- a piece, or the fault
 abbrev pub piece_answer : Result piece_type.Piece AsmCause → Answer Piece
 piece_answer answer = map_answer piece answer
 
@@ -94,11 +95,13 @@ count_by None = Err BadNumber
 
 -- ---- values and elements
 
+-- a value of this type is at the start of the text, and gives these pieces
 pub record HasValue (constants : Constants) (msb : Bool) (kind : meaning.ElementType) (text : List ℕ) (answer : Answer (List Piece)) (rest : List ℕ) : Type 0 where
   pub value : ElementValue
   pub is : IsValueAt kind text value rest
   pub gives : answer ≡ value_pieces constants msb value
 
+-- no value of this type is at the start of the text
 abbrev pub HasNoValue : meaning.ElementType → List ℕ → Type 0
 HasNoValue kind text = (value : ElementValue) (rest : List ℕ) → IsValueAt kind text value rest → ⊥
 
@@ -112,5 +115,6 @@ pub record HasElement (constants : Constants) (msb : Bool) (text : List ℕ) (an
 abbrev pub repeated_pieces : Answer ℕ → Answer (List Piece) → Answer (List Piece)
 repeated_pieces count pieces = pair_or_earlier_fault count pieces >>= λ found. Ok (copies found.0 found.1)
 
+-- the pieces of an element, or the fault
 abbrev pub part_answer : Result RepeatedPieces AsmCause → Answer (List Piece)
 part_answer answer = map_answer part_pieces answer

@@ -3,6 +3,7 @@ use Rattle.std.specs.Prelude.{ℕ, ◌+◌, ◌-◌, ◌/◌, Bool, List, length
 use Rattle.std.specs.Char.{is_digit}
 use Rattle.std.specs.List.{list_all}
 
+-- all bytes are digits of the base
 abbrev pub are_digits : ℕ → List ℕ → Bool
 are_digits base digits = list_all (λ byte. is_digit byte base) digits
 

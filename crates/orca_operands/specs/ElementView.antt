@@ -5,6 +5,7 @@ use Rattle.asm_meaning.specs.Elements as meaning
 use Rattle.orca_operands.specs.declared.element.ElementKind.{ElementKind}
 use Rattle.orca_operands.specs.declared.element.ElementKind.TheVariants.{Number, Hexadecimal, Binary, Characters, References, WeakReferences}
 
+-- the type of an element
 abbrev pub element_kind : ElementKind → meaning.ElementType
 element_kind (Number width) = meaning.Number width
 element_kind Hexadecimal = meaning.Hexadecimal

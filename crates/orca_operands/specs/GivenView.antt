@@ -17,6 +17,7 @@ use Rattle.orca_operands.specs.PieceView.{piece}
 abbrev pub part_pieces : RepeatedPieces → List meaning.Piece
 part_pieces p = copies p.count (map piece p.pieces.items)
 
+-- the pieces of elements one after another
 abbrev pub all_pieces : List RepeatedPieces → List meaning.Piece
 all_pieces parts = flat_map part_pieces parts
 
@@ -26,17 +27,21 @@ given_pieces (Bytes few) = meaning.Bytes (few_bytes few) ∷ []
 given_pieces (Operand opcode code count n expr) = meaning.Bytes (opcode ∷ []) ∷ meaning.Whole (record_.Formula code count n expr.items) ∷ []
 given_pieces (Parts parts) = all_pieces parts.items
 
+-- the records of an encoding
 abbrev pub given_records : Encoding → List record_.Record
 given_records g = records_of (given_pieces g)
 
+-- the pieces of an encoding, or the fault
 abbrev pub given_answer : Result Encoding AsmCause → Answer (List meaning.Piece)
 given_answer (Ok g) = Ok (given_pieces g)
 given_answer (Err cause) = Err cause
 
+-- a label with the pieces of an encoding, or the fault
 abbrev pub labelled_answer : Result (List ℕ × Encoding) AsmCause → Answer (List ℕ × List meaning.Piece)
 labelled_answer (Ok x) = Ok (x.0, given_pieces x.1)
 labelled_answer (Err cause) = Err cause
 
+-- the pieces of each element, or the fault
 abbrev pub parts_answer : Result (Vec RepeatedPieces) AsmCause → Answer (List (List meaning.Piece))
 parts_answer (Ok v) = Ok (map part_pieces v.items)
 parts_answer (Err cause) = Err cause

@@ -8,6 +8,7 @@ use Rattle.asm_meaning.specs.declared.faults.AsmCause.TheVariants.{UnknownConsta
 use Rattle.asm_meaning.specs.Formulas.{checked_formula}
 use Rattle.orca_operands.specs.AmountView.{AmountBytes, Number, Text}
 
+-- the amount of a formula that isn't too deep and has no number that is too large
 abbrev pub judged_amount : Constants → Tree → Answer Amount
 judged_amount constants tree = checked_formula tree >>= amount constants
 

@@ -1,4 +1,3 @@
-pub mod Held
 pub mod ModeView
 pub mod NamesView
 pub mod AmountView

@@ -25,6 +25,7 @@ pub record IsTerms (text : List ℕ) (answer : Result (List Term) AsmCause) : Ty
 abbrev pub amount_found : Constants → Option Tree → Answer meaning.Amount
 amount_found constants found = formula_of found >>= amount constants
 
+-- the answer is what the formula amounts to that the text is, or what is wrong with it
 pub record HasAmount (constants : Constants) (text : List ℕ) (answer : Result Amount AsmCause) : Type 0 where
   pub found : Option Tree
   pub formula : IsFormula text found
@@ -34,6 +35,7 @@ pub record HasAmount (constants : Constants) (text : List ℕ) (answer : Result 
 abbrev pub number_found : Constants → Option Tree → Answer ℕ
 number_found constants found = formula_of found >>= λ tree. required_number (known_value constants tree)
 
+-- the answer is the number that the text is, or what is wrong with it
 pub record HasNumber (constants : Constants) (text : List ℕ) (answer : Answer ℕ) : Type 0 where
   pub found : Option Tree
   pub formula : IsFormula text found

@@ -6,6 +6,7 @@ use Rattle.asm_meaning.specs.Statement.{needs_label}
 use Rattle.asm_meaning.specs.declared.faults.AsmCause.{AsmCause}
 use Rattle.asm_meaning.specs.Answer.{Answer}
 
+-- a name, or the fault
 abbrev pub name_answer : Result (List ℕ) AsmCause → Answer (List ℕ)
 name_answer answer = answer
 

@@ -15,10 +15,12 @@ piece_size (Bytes bytes) = length bytes.items
 piece_size (Formula code count n expr) = count
 piece_size (Strong name) = 0
 
+-- how many cells pieces give
 abbrev pub pieces_size : List piece_type.Piece → ℕ
 pieces_size [] = 0
 pieces_size (p ∷ ps) = piece_size p + pieces_size ps
 
+-- how many cells repeated pieces give
 abbrev pub parts_size : List RepeatedPieces → ℕ
 parts_size [] = 0
 parts_size (p ∷ ps) = p.count * pieces_size p.pieces.items + parts_size ps

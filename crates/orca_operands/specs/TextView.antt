@@ -7,9 +7,11 @@ use Rattle.orca_operands.specs.declared.record_bytes.RecordBytes.{RecordBytes}
 abbrev pub text_within_limit : List ℕ → Option (List ℕ)
 text_within_limit text = if nat_le (length text) most_bytes then Some text else None
 
+-- the bytes, unless they became too many
 abbrev pub kept_by : Bool → List ℕ → Option (List ℕ)
 kept_by true bytes = None
 kept_by false bytes = Some bytes
 
+-- the bytes of records, unless they became too many
 abbrev pub kept_text : RecordBytes → Option (List ℕ)
 kept_text t = kept_by t.long t.bytes.items

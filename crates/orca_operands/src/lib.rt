@@ -12,7 +12,6 @@ mod encoding;
 mod instruction;
 mod lists;
 mod mode;
-mod name_map;
 mod names;
 mod numbers;
 mod operand;

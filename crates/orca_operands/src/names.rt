@@ -1,23 +1,22 @@
 //! The names that a segment defines, and the constants from outside segments.
 
 ghost use Rattle.std.specs.Prelude.{◌≡◌, ◌<◌, ◌^◌, List, ℕ, Some};
-ghost use Rattle.orca_operands.specs.Held.{value_of_name};
+ghost use Rattle.name_map.specs.Held.{value_of_name};
 
-use crate::name_map::{get_by_name, insert_by_name};
-use indexmap::IndexMap;
+use name_map::{NameMap, get_by_name, insert_by_name};
 use std::alloc::{AllocError, Global};
 
 /// The names that a segment defines, each with its value where it is a constant.
 #[derive(Drop)]
 pub struct DefinedNames {
-    pub(crate) map: IndexMap<Vec<u8>, Option<u32>>,
+    pub(crate) map: NameMap<Option<u32>>,
     ghost small: { (name : List ℕ) (n : ℕ) → value_of_name map name ≡ Some (Some n) → n < 2 ^ 32 },
 }
 
 /// The constants from outside segments.
 #[derive(Drop)]
 pub struct OutsideConstants {
-    pub(crate) map: IndexMap<Vec<u8>, u32>,
+    pub(crate) map: NameMap<u32>,
     ghost small: { (name : List ℕ) (n : ℕ) → value_of_name map name ≡ Some n → n < 2 ^ 32 },
 }
 
@@ -42,7 +41,7 @@ impl DefinedNames {
         ensures { names_of result ≡ no_names }
     {
         DefinedNames {
-            map: IndexMap::new(alloc),
+            map: NameMap::new(alloc),
         }
     }
 
@@ -94,7 +93,7 @@ impl OutsideConstants {
         ensures { outside_of result ≡ no_constants }
     {
         OutsideConstants {
-            map: IndexMap::new(alloc),
+            map: NameMap::new(alloc),
         }
     }
 

@@ -4,6 +4,7 @@ use Rattle.macro_meaning.specs.Call as meaning
 use Rattle.macro_meaning.specs.Symbol.{Symbols}
 use Rattle.orca_symbols.specs.declared.call.Bind.{Bind}
 
+-- what an operand binds
 abbrev pub bind : Bind → meaning.Binding
 bind b = record { name = b.name.now; text = b.text.now; next = b.next }
 

@@ -7,6 +7,7 @@ use Rattle.macro_meaning.specs.Symbol.{Symbol, Own, Common, Symbols, SharedTexts
 use Rattle.orca_meaning.specs.Names.{with_name}
 use Rattle.macro_meaning.specs.Visit.{shared_first}
 
+-- what a declaration makes of the symbols and of the shared texts
 abbrev pub IsDeclared : List ℕ → Declaration → Symbols → Symbols → SharedTexts → SharedTexts → Type 0
 IsDeclared name (Local kind) old new texts texts' = (new ≡ with_name name (Own kind (first_text kind)) old) × (texts' ≡ texts)
 IsDeclared name (Shared kind) old new texts texts' = (new ≡ with_name name (Common kind) old) × (texts' ≡ shared_first name kind texts)

@@ -15,6 +15,7 @@ pub record Frame : Type 0 where
   pub counter : ℕ
   pub symbols : Symbols
 
+-- the frame of an expansion
 abbrev pub frame : CallScope → Frame
 frame s = record { macro = s.place; line = s.line; root = s.root; counter = s.counter; symbols = symbols_of s.symbols }
 

@@ -1,4 +1,3 @@
-pub mod Held
 pub mod View
 pub mod Piece
 pub mod ModelView

@@ -18,6 +18,7 @@ part_text text_of (Plain bytes) = Some bytes
 part_text text_of (Put name) = text_of name
 part_text text_of (Need name) = where_some [] (text_of name)
 
+-- two parts of a line, where both are there
 abbrev pub join : Option (List ℕ) → Option (List ℕ) → Option (List ℕ)
 join None tail = None
 join (Some front) tail = with_front front tail
@@ -37,11 +38,13 @@ replacement_text text_of Ampersand = Some (0x26 ∷ [])
 replacement_text text_of (Text name more) = text_of name
 replacement_text text_of (Asked name) = where_some (0x26 ∷ []) (text_of name)
 
+-- how many bytes after the name go with it
 abbrev pub more_of : Replacement → ℕ
 more_of Ampersand = 0
 more_of (Text name more) = more
 more_of (Asked name) = 0
 
+-- a text, and how many bytes go with it
 abbrev pub with_more : ℕ → Option (List ℕ) → Option (List ℕ × ℕ)
 with_more more None = None
 with_more more (Some text) = Some (text, more)

@@ -7,14 +7,13 @@ ghost use Rattle.macro_meaning.specs.Call.{no_symbols};
 ghost use Rattle.macro_meaning.specs.Visit.{no_texts};
 ghost use Rattle.macro_meaning.specs.laws.Steps;
 ghost use Rattle.orca_symbols.specs.Changes.{IsRenewed, IsRenewedIn};
-ghost use Rattle.orca_symbols.specs.Held.{value_of_name};
+ghost use Rattle.name_map.specs.Held.{value_of_name};
 ghost use Rattle.orca_symbols.specs.View.{symbol, shared_text, symbols_of, texts_of, values};
 
-use crate::name_map::{get_by_name, insert_by_name, insert_new_name};
 use crate::text::SymbolText;
-use indexmap::IndexMap;
 use itoa::Buffer;
 use macro_meaning::{Declaration, SymbolKind};
+use name_map::{NameMap, get_by_name, insert_by_name, insert_new_name};
 use orca_text::LinePart;
 use std::alloc::{AllocError, Global};
 use std::marker::Model;
@@ -38,13 +37,13 @@ pub struct SharedText {
 /// The symbols of an expansion by name.
 #[derive(Drop)]
 pub struct Symbols {
-    pub map: IndexMap<Vec<u8>, Symbol>,
+    pub map: NameMap<Symbol>,
 }
 
 /// The texts of the shared symbols by name.
 #[derive(Drop)]
 pub struct SharedTextTable {
-    pub map: IndexMap<Vec<u8>, SharedText>,
+    pub map: NameMap<SharedText>,
 }
 
 /// How many macros were called, with its digits. Contracts see the number.
@@ -156,7 +155,7 @@ impl Symbols {
         ensures { symbols_of result ≡ no_symbols }
     {
         Symbols {
-            map: IndexMap::new(alloc),
+            map: NameMap::new(alloc),
         }
     }
 
@@ -213,7 +212,7 @@ impl SharedTextTable {
         ensures { texts_of result ≡ no_texts }
     {
         SharedTextTable {
-            map: IndexMap::new(alloc),
+            map: NameMap::new(alloc),
         }
     }
 

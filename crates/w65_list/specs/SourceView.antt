@@ -82,6 +82,7 @@ pub record LinesOn (f : HeaderFields) (equates : List (List ℕ)) (b : PendingRu
   pub wrote : WroteAll lines old now
   pub on : (rest : List (ℕ × Record)) → said_from f equates b (so_far ++ rest) ≡ (said_from f equates left rest >>= λ more. Ok (lines ++ more))
 
+-- the lines of the records so far are written, and a run of constant bytes may be pending
 pub record RecordsOn (f : HeaderFields) (names : Names) (start at : Reader) (first before : kept_before.PendingRun) (old now : ListingText) : Type 0 where
   pub line : open_line now ≡ []
   pub so_far : List (ℕ × Record)

@@ -1,8 +1,8 @@
 use Rattle.std.proofs.Common.{◌≡◌, length, take, arith}
 use Rattle.std.proofs.lemmas.List.{length-take}
 use Rattle.orca_text.specs.View.{line}
-use Rattle.orca_symbols.specs.Held.{value_of_name}
-use Rattle.orca_symbols.proofs.Maps.{empty_held}
+use Rattle.name_map.specs.Held.{value_of_name}
+use Rattle.name_map.proofs.Maps.{empty_held}
 use Rattle.orca_macro.proofs.Targets.{more_places, no_places}
 use Rattle.orca_macro.proofs.body.targets_of.Goals as goal
 

@@ -1,6 +1,6 @@
 use Rattle.std.proofs.Common.{◌≡◌, ◌≤◌, ◌-◌, ℕ, List, take}
 use Rattle.macro_meaning.specs.Visit.{places_from}
-use Rattle.orca_symbols.specs.Held.{value_of_name}
+use Rattle.name_map.specs.Held.{value_of_name}
 use Rattle.orca_macro.specs.DefinitionView.{summary}
 use Rattle.orca_macro.proofs.body.targets_of.Given as goal
 

@@ -1,9 +1,9 @@
 use Rattle.std.proofs.Common.{◌≤◌, ◌+◌, map, length, arith}
 use Rattle.std.proofs.lemmas.List.{length-map}
-use Rattle.orca_symbols.specs.Held.{value_of_name}
+use Rattle.name_map.specs.Held.{value_of_name}
 use Rattle.orca_macro.specs.Parts.{definition}
 use Rattle.orca_macro.proofs.Firsts.{no_first, next_name}
-use Rattle.orca_symbols.proofs.Maps.{empty_held}
+use Rattle.name_map.proofs.Maps.{empty_held}
 use Rattle.orca_symbols.proofs.Parted.{get_inside}
 use Rattle.orca_macro.proofs.program.names_of.Goals as goal
 

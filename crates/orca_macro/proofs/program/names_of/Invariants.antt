@@ -1,6 +1,6 @@
 use Rattle.std.proofs.Common.{◌≡◌, ◌≤◌, ◌-◌, ℕ, List, map, take, length}
 use Rattle.macro_meaning.specs.Definition.{first_named}
-use Rattle.orca_symbols.specs.Held.{value_of_name}
+use Rattle.name_map.specs.Held.{value_of_name}
 use Rattle.orca_macro.specs.Parts.{definition}
 use Rattle.orca_macro.proofs.program.names_of.Given as goal
 

@@ -1,4 +1,4 @@
-use Rattle.orca_symbols.specs.Held.{value_of_name}
+use Rattle.name_map.specs.Held.{value_of_name}
 use Rattle.orca_symbols.specs.View.{symbol}
 use Rattle.orca_symbols.proofs.Maps.{named, seen_new}
 use Rattle.orca_symbols.proofs.symbols.Symbols.add_new.Goals as goal

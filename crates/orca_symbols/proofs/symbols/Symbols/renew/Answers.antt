@@ -1,7 +1,8 @@
 use Rattle.std.proofs.Common.{Some, rules, sym, ap}
 use Rattle.std.specs.Option.{option_map}
 use Rattle.orca_symbols.specs.View.{symbol, symbols_of}
-use Rattle.orca_symbols.proofs.Maps.{named, updated}
+use Rattle.name_map.proofs.Maps.{updated}
+use Rattle.orca_symbols.proofs.Maps.{named}
 use Rattle.orca_symbols.proofs.Renewals.{renewed_in}
 use Rattle.orca_symbols.proofs.symbols.Symbols.renew.Goals as goal
 

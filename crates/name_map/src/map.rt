@@ -1,13 +1,16 @@
 //! Maps by name.
 
-ghost use Rattle.std.specs.Prelude.{◌≡◌, ℕ, List, Some, bytes_eq, is_none, IfOk, OnOk, MatchOption, if◌then◌else◌, None, option_copied};
-ghost use Rattle.orca_symbols.specs.Held.{value_of_name};
+ghost use Rattle.std.specs.Prelude.{◌≡◌, ℕ, List, Some, bytes_eq, is_none, IfOk, OnOk, OnErr, MatchOption, if◌then◌else◌, None, option_copied};
+ghost use Rattle.name_map.specs.Held.{value_of_name};
 
 use indexmap::IndexMap;
 use std::alloc::{AllocError, Global};
 
+/// Values by name. Names keep the order in which they came.
+pub type NameMap<V> = IndexMap<Vec<u8>, V>;
+
 /// Gives a name that has a value another one. Where it has none, the value is handed back.
-fn replace_value<V: Drop>(map: &mut IndexMap<Vec<u8>, V>, name: &[u8], value: V) -> Option<V>
+fn replace_value<V: Drop>(map: &mut NameMap<V>, name: &[u8], value: V) -> Option<V>
     ensures { MatchOption result
         ((q : List ℕ) → value_of_name map.new q ≡ (if bytes_eq name.now q then Some value else value_of_name map.old q))
         (λ back. (back ≡ value) × (map.new ≡ map.old)) }
@@ -22,14 +25,15 @@ fn replace_value<V: Drop>(map: &mut IndexMap<Vec<u8>, V>, name: &[u8], value: V)
 }
 
 /// Gives a name a value, whether it has one or not: whether it had none.
-#[tactic(auto, using(crate::proofs::Maps::updated))]
-pub(crate) fn insert_new_name<V: Drop>(
+#[tactic(auto, using(crate::proofs::Maps::updated, crate::proofs::Maps::unchanged))]
+pub fn insert_new_name<V: Drop>(
     alloc: Global,
-    map: &mut IndexMap<Vec<u8>, V>,
+    map: &mut NameMap<V>,
     name: &[u8],
     value: V,
 ) -> Result<bool, AllocError>
     ensures ok { OnOk result ((q : List ℕ) → value_of_name map.new q ≡ (if bytes_eq name.now q then Some value else value_of_name map.old q)) }
+    ensures err { OnErr result ((q : List ℕ) → value_of_name map.new q ≡ value_of_name map.old q) }
     ensures fresh { IfOk result (λ fresh. fresh ≡ is_none (value_of_name map.old name.now)) }
 {
     let key = Vec::from_slice(alloc, name)?;
@@ -42,11 +46,12 @@ pub(crate) fn insert_new_name<V: Drop>(
 /// Gives a name a value. A name that has one isn't copied.
 pub fn insert_by_name<V: Drop>(
     alloc: Global,
-    map: &mut IndexMap<Vec<u8>, V>,
+    map: &mut NameMap<V>,
     name: &[u8],
     value: V,
 ) -> Result<(), AllocError>
     ensures ok { OnOk result ((q : List ℕ) → value_of_name map.new q ≡ (if bytes_eq name.now q then Some value else value_of_name map.old q)) }
+    ensures err { OnErr result ((q : List ℕ) → value_of_name map.new q ≡ value_of_name map.old q) }
 {
     match replace_value(map, name, value) {
         None => Ok(()),
@@ -76,7 +81,7 @@ fn is_same(name: &[u8], other: &[u8]) -> bool
 
 /// The value of a name in a map that has few.
 #[inline(always)]
-fn look_through<'a, V>(map: &'a IndexMap<Vec<u8>, V>, name: &[u8]) -> Option<&'a V>
+fn look_through<'a, V>(map: &'a NameMap<V>, name: &[u8]) -> Option<&'a V>
     ensures { option_copied result ≡ value_of_name map.now name.now }
 {
     'names: for at in 0..map.len() {
@@ -90,7 +95,7 @@ fn look_through<'a, V>(map: &'a IndexMap<Vec<u8>, V>, name: &[u8]) -> Option<&'a
 
 /// The value of a name in a map that has many.
 #[inline(never)]
-fn look_up<'a, V>(map: &'a IndexMap<Vec<u8>, V>, name: &[u8]) -> Option<&'a V>
+fn look_up<'a, V>(map: &'a NameMap<V>, name: &[u8]) -> Option<&'a V>
     ensures { option_copied result ≡ value_of_name map.now name.now }
 {
     map.get(name)
@@ -98,7 +103,7 @@ fn look_up<'a, V>(map: &'a IndexMap<Vec<u8>, V>, name: &[u8]) -> Option<&'a V>
 
 /// The value of a name.
 #[inline(always)]
-pub fn get_by_name<'a, V>(map: &'a IndexMap<Vec<u8>, V>, name: &[u8]) -> Option<&'a V>
+pub fn get_by_name<'a, V>(map: &'a NameMap<V>, name: &[u8]) -> Option<&'a V>
     ensures { option_copied result ≡ value_of_name map.now name.now }
 {
     if map.len() <= FEW {

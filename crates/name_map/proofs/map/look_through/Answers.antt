@@ -1,7 +1,7 @@
 use Rattle.std.proofs.Common.{◌≡◌, ℕ, List, false, sym, subst}
 use Rattle.std.specs.Prelude.{bytes_eq}
-use Rattle.orca_symbols.proofs.Maps.{passed}
-use Rattle.orca_symbols.proofs.name_map.look_through.Goals as goal
+use Rattle.name_map.proofs.Maps.{passed}
+use Rattle.name_map.proofs.map.look_through.Goals as goal
 
 pub names-preserved : goal.names-preserved
 names-preserved g c =
