@@ -1,0 +1,7 @@
+//! Every input has an answer: beside the laws that say *at most one*, the laws that say *one at least*. The definitions that contracts cite are
+//! in `specs/`.
+#![tactic(auto)]
+
+mod laws;
+
+pub use laws::files_are_answered;
