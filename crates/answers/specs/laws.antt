@@ -1,2 +1,5 @@
 pub mod Walks
+pub mod Options
 pub mod FileAnswers
+pub mod LoadCauses
+pub mod LoadAnswers

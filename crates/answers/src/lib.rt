@@ -4,4 +4,4 @@
 
 mod laws;
 
-pub use laws::files_are_answered;
+pub use laws::{files_are_answered, load_files_are_answered};
