@@ -3,3 +3,9 @@ pub mod Options
 pub mod FileAnswers
 pub mod LoadCauses
 pub mod LoadAnswers
+pub mod ScriptAnswers
+pub mod LibraryAnswers
+pub mod Decisions
+pub mod CycleDecisions
+pub mod LinkedLists
+pub mod LinkAnswers

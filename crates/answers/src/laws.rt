@@ -1,6 +1,9 @@
 //! Laws that every input has an answer. These functions do nothing: each is there for its contract.
 
 ghost use Rattle.answers.specs.Files.{FilesAreAnswered, LoadFilesAreAnswered, RuntimeFilesAreAnswered};
+ghost use Rattle.answers.specs.Inputs.{DumpsAreAnswered, DictionariesAreAnswered, LibrariesAreAnswered, LinksAreAnswered, ScriptsAreAnswered};
+
+use lib_dict::rows_are_laid_out;
 
 /// A file is a list of segments, or has a first fault, which isn't want of memory.
 pub fn files_are_answered()
@@ -11,4 +14,28 @@ pub fn files_are_answered()
 pub fn load_files_are_answered()
     ensures load { LoadFilesAreAnswered }
     ensures runtime { RuntimeFilesAreAnswered }
+{}
+
+/// A file has a listing, or a first fault, which isn't want of memory.
+pub fn dumps_are_answered()
+    ensures { DumpsAreAnswered }
+{}
+
+/// Files have a library, or a first fault, which isn't want of memory; and a file is a library with its rows, one whose dictionary is false, no
+/// library, or no list of segments.
+pub fn libraries_are_answered()
+    ensures made { LibrariesAreAnswered }
+    ensures read { DictionariesAreAnswered }
+{}
+
+/// Files have a load file, or a first fault of a phase.
+pub fn links_are_answered()
+    ensures { LinksAreAnswered }
+{
+    rows_are_laid_out();
+}
+
+/// A text is a script of commands, or has a first bad line.
+pub fn scripts_are_answered()
+    ensures { ScriptsAreAnswered }
 {}

@@ -4,4 +4,7 @@
 
 mod laws;
 
-pub use laws::{files_are_answered, load_files_are_answered};
+pub use laws::{
+    dumps_are_answered, files_are_answered, libraries_are_answered, links_are_answered,
+    load_files_are_answered, scripts_are_answered,
+};

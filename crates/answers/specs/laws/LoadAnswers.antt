@@ -114,7 +114,7 @@ load_files_are_answered file fits = by_reading (read_from (suc (length file)) fi
     by_reading (inl read) = by_segments read.0 read.1 read.2
     by_reading (inr fault) = inr (fault.0, OfReading fault.1, fault.2)
 
-abbrev RuntimeAnswer : List ℕ → Type 0
+abbrev pub RuntimeAnswer : List ℕ → Type 0
 RuntimeAnswer file = ((segments : List Segment) × IsRuntime file segments) ⊎ ((fault : LoadFault) × IsFirstRuntimeFault file fault × (fault.cause ≢ Memory))
 
 pub runtime_files_are_answered : RuntimeFilesAreAnswered
