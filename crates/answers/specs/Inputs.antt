@@ -13,6 +13,9 @@ use Rattle.lib_dict.specs.Made.{IsLibRefused}
 use Rattle.link_meaning.specs.declared.fault.LinkFault.{LinkFault}
 use Rattle.link_meaning.specs.LinkFaults.{LinkInput, HasBytes}
 use Rattle.link_meaning.specs.EmitFaults.{IsFirstLinkFault, IsLinkedTo}
+use Rattle.omf_compact.specs.declared.fault.CompactCause.TheVariants as compact
+use Rattle.omf_compact.specs.declared.fault.CompactFault.{CompactFault}
+use Rattle.omf_compact.specs.Answer.{IsAnswer, IsRefused}
 use Rattle.loader_machine.specs.declared.script.ScriptFault.{ScriptFault}
 use Rattle.loader_machine.specs.Commands.{Command}
 use Rattle.loader_machine.specs.Script.{IsScript, HasScriptFault}
@@ -34,6 +37,11 @@ DictionariesAreAnswered = (file : List ℕ) → IsBytes file → DictionaryAnswe
 abbrev pub LibrariesAreAnswered : Type 0
 LibrariesAreAnswered = (given : List LibraryInput) → AllByRecursion (λ file. IsBytes file.bytes) given
     → ((bytes : List ℕ) × IsLibraryOf given bytes) ⊎ ((fault : LibFault) × IsLibRefused fault given × (fault.cause ≢ lib.Memory))
+
+-- `compact`: a file has a canonical form, or a reason why it has none
+abbrev pub LoadFilesAreCompacted : Type 0
+LoadFilesAreCompacted = (file : List ℕ) → IsBytes file
+    → ((out : List ℕ) × IsAnswer file out) ⊎ ((fault : CompactFault) × IsRefused fault file × (fault.cause ≢ compact.Memory))
 
 -- `link`, `rtl` and `linkrt`: files have a load file, or a first fault
 abbrev pub LinksAreAnswered : Type 0

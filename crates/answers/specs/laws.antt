@@ -9,3 +9,4 @@ pub mod Decisions
 pub mod CycleDecisions
 pub mod LinkedLists
 pub mod LinkAnswers
+pub mod CompactAnswers

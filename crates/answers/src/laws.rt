@@ -1,7 +1,7 @@
 //! Laws that every input has an answer. These functions do nothing: each is there for its contract.
 
 ghost use Rattle.answers.specs.Files.{FilesAreAnswered, LoadFilesAreAnswered, RuntimeFilesAreAnswered};
-ghost use Rattle.answers.specs.Inputs.{DumpsAreAnswered, DictionariesAreAnswered, LibrariesAreAnswered, LinksAreAnswered, ScriptsAreAnswered};
+ghost use Rattle.answers.specs.Inputs.{DumpsAreAnswered, DictionariesAreAnswered, LibrariesAreAnswered, LoadFilesAreCompacted, LinksAreAnswered, ScriptsAreAnswered};
 
 use lib_dict::rows_are_laid_out;
 
@@ -26,6 +26,11 @@ pub fn dumps_are_answered()
 pub fn libraries_are_answered()
     ensures made { LibrariesAreAnswered }
     ensures read { DictionariesAreAnswered }
+{}
+
+/// A file has a canonical form, or a reason why it has none, which isn't want of memory.
+pub fn load_files_are_compacted()
+    ensures { LoadFilesAreCompacted }
 {}
 
 /// Files have a load file, or a first fault of a phase.

@@ -94,7 +94,7 @@ no_bytes : (file : List ℕ) → 0 ≡ length file → file ≡ []
 no_bytes [] e = refl
 no_bytes (byte ∷ file) e = absurd (omega (arith, e))
 
-abbrev LoadAnswer : List ℕ → Type 0
+abbrev pub LoadAnswer : List ℕ → Type 0
 LoadAnswer file = ((segments : List Segment) × IsLoadable file segments) ⊎ ((fault : LoadFault) × IsFirstLoadFault file fault × (fault.cause ≢ Memory))
 
 pub load_files_are_answered : LoadFilesAreAnswered
