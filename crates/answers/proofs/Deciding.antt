@@ -27,9 +27,9 @@ pub refutes : {P : Type 0} → Decided P → Decided (P → ⊥)
 refutes (inl p) = inr (λ none. none p)
 refutes (inr none) = inl none
 
-pub as : {P Q : Type 0} → (P → Q) → (Q → P) → Decided P → Decided Q
-as to from (inl p) = inl (to p)
-as to from (inr none) = inr (λ q. none (from q))
+pub same_as : {P Q : Type 0} → (P → Q) → (Q → P) → Decided P → Decided Q
+same_as to from (inl p) = inl (to p)
+same_as to from (inr none) = inr (λ q. none (from q))
 
 pub some_and : {A : Type 0} (P : A → Type 0) (o : Option A) → ((x : A) → Decided (P x)) → Decided (IsSomeAnd o P)
 some_and P None decide = inr (λ e. e)
@@ -69,7 +69,7 @@ all_below P limit decide = elim (least_below (λ i. P i → ⊥) limit (λ i. re
     stands i less double (inr refuted) = absurd (double refuted)
 
 pub all_in : (P : ℕ → Type 0) (from size : ℕ) → ((i : ℕ) → Decided (P i)) → Decided ((i : ℕ) → from ≤ i → i < from + size → P i)
-all_in P from size decide = as
+all_in P from size decide = same_as
     (λ all i above within. let same : from + (i - from) ≡ i = omega (arith, above) in subst P same (all (i - from) (omega (arith, above, within))))
     (λ all k less. all (from + k) (omega arith) (omega (arith, less)))
     (all_below (λ k. P (from + k)) size (λ k. decide (from + k)))

@@ -22,22 +22,22 @@ use Rattle.iigs_places.proofs.Stays.{apart_stays}
 use Rattle.iigs_places.proofs.Puts.{gone_stays}
 use Rattle.iigs_compact_memory.proofs.Settled.{settled_emptied}
 use Rattle.answers.specs.laws.Decisions.{Decided, is_it}
-use Rattle.answers.proofs.Deciding.{equal, less, at_most, both, implies, refutes, as, some_and, if_some, Least, least_below, all_below, all_in}
+use Rattle.answers.proofs.Deciding.{equal, less, at_most, both, implies, refutes, same_as, some_and, if_some, Least, least_below, all_below, all_in}
 
 -- ---- whether a want fits at an address
 
-holds_or_not : (i : ℕ) (slot : Slot Block) → Decided (HoldsByte i slot)
+pub holds_or_not : (i : ℕ) (slot : Slot Block) → Decided (HoldsByte i slot)
 holds_or_not i slot = some_and (λ (block : Block). IsSomeAnd block.at (λ first. (first ≤ i) × (i < first + block.want.size))) (block_in slot)
     (λ (block : Block). some_and (λ first. (first ≤ i) × (i < first + block.want.size)) block.at (λ first. both (at_most first i) (less i (first + block.want.size))))
 
 pub free_or_not : (banks : List ℕ) (i : ℕ) → Decided (IsFree banks i)
-free_or_not banks i = as
+free_or_not banks i = same_as
     (λ all. record { configured = (named-Contains banks (bank_of i)).0 all.0; above = all.1.0; below = all.1.1 })
     (λ (free : IsFree banks i). ((named-Contains banks (bank_of i)).1 free.configured, (free.above, free.below)))
     (both (is_it (is_named banks (bank_of i))) (both (at_most (first_free (bank_of i)) (low_of i)) (less (low_of i) (free_end (bank_of i)))))
 
 apart_or_not : (address size : ℕ) (slots : Slots) → Decided (All (IsApart address size) slots)
-apart_or_not address size slots = as
+apart_or_not address size slots = same_as
     (λ (each : (place : ℕ) → place < length slots → IsApart address size (slot_at slots place)) place d within.
     subst (IsApart address size) (get_or_default slots place new_slot d within) (each place within))
     (λ (all : All (IsApart address size) slots) place within. all place new_slot within)
@@ -45,7 +45,7 @@ apart_or_not address size slots = as
     (λ place. all_in (λ i. HoldsByte i (slot_at slots place) → ⊥) address size (λ i. refutes (holds_or_not i (slot_at slots place)))))
 
 pub fits_or_not : (banks : List ℕ) (slots : Slots) (want : Want) (address : ℕ) → Decided (Fits banks slots want address)
-fits_or_not banks slots want address = as
+fits_or_not banks slots want address = same_as
     (λ all. record {
       free = all.0;
       apart = all.1.0;
@@ -73,7 +73,7 @@ fits_or_not banks slots want address = as
 -- ---- the least address
 
 -- above all configured banks
-top : List ℕ → ℕ
+abbrev top : List ℕ → ℕ
 top [] = 0
 top (bank ∷ banks) = (bank + 1) * 0x10000 + top banks
 
@@ -148,7 +148,7 @@ by_purges banks slots want some = settle (least_below FitsWith (suc (count_purge
 -- ---- slides
 
 -- an address above those of all blocks that move
-above_movers : Slots → ℕ
+abbrev above_movers : Slots → ℕ
 above_movers [] = 0
 above_movers (slot ∷ slots) = elim (movable_block slot) [ None ↦ 0 | Some block ↦ suc (place_of block) ] + above_movers slots
 
@@ -159,7 +159,7 @@ mover_below (slot ∷ slots) (suc place) block is = let rest = mover_below slots
 
 module _ (banks : List ℕ) (old : Slots) (apart : AreApart banks old) (settled : AreSettled banks old) where
   -- the blocks that lay below an address are slid down
-  Slid : ℕ → Type 0
+  abbrev Slid : ℕ → Type 0
   Slid limit = (now : Slots) × AreSlidTo banks old now limit
 
   -- a block that moves lies there
@@ -254,14 +254,14 @@ module _ (banks : List ℕ) (slots : Slots) (want : Want) (apart : AreApart bank
   slid : (count : ℕ) → (new : Slots) × Slides banks (slots_after_purges slots count) new
   slid count = slide_ends banks (slots_after_purges slots count) (emptied_apart banks slots count apart) (settled_emptied banks slots count settled)
 
-  FitsSlid : ℕ → Type 0
+  abbrev FitsSlid : ℕ → Type 0
   FitsSlid count = (new : Slots) × Slides banks (slots_after_purges slots count) new × Lowest banks new want
 
   fits_slid : (count : ℕ) → Decided (FitsSlid count)
   fits_slid count = elim (lowest_or_none banks (slid count).0 want some) [
     | inl found ↦ inl ((slid count).0, (slid count).1, found)
     | inr none ↦ inr (λ (fits : FitsSlid count). none fits.2.address (subst (λ (s : Slots). Fits banks s want fits.2.address)
-      (slides_once banks (slots_after_purges slots count) fits.0 (slid count).0 fits.1 (slid count).1) fits.2.fits))
+        (slides_once banks (slots_after_purges slots count) fits.0 (slid count).0 fits.1 (slid count).1) fits.2.fits))
   ]
 
   lowest_slid : (count : ℕ) (new : Slots) → Slides banks (slots_after_purges slots count) new → (address : ℕ) → Fits banks new want address → FitsSlid count
@@ -286,12 +286,15 @@ module _ (banks : List ℕ) (slots : Slots) (want : Want) (apart : AreApart bank
           },
         ),
       ))
-  by_slide none (inr nowhere) = inr (lacks_room_by_slides banks slots want (none, λ count room slides address fits. elim (cases_lt count (suc (count_purgeable slots))) [
-    | inl within' ↦ nowhere count within' (lowest_slid count room slides address fits)
-    | inr past ↦
-        let same = emptied_past slots count (omega (arith, past)) in
-        nowhere (count_purgeable slots) (omega arith) (lowest_slid (count_purgeable slots) room (subst (λ (s : Slots). Slides banks s room) same slides) address fits)
-  ]))
+  by_slide none (inr nowhere) = inr (lacks_room_by_slides banks slots want (
+    none,
+    λ count room slides address fits. elim (cases_lt count (suc (count_purgeable slots))) [
+      | inl within' ↦ nowhere count within' (lowest_slid count room slides address fits)
+      | inr past ↦
+          let same = emptied_past slots count (omega (arith, past)) in
+          nowhere (count_purgeable slots) (omega arith) (lowest_slid (count_purgeable slots) room (subst (λ (s : Slots). Slides banks s room) same slides) address fits)
+    ],
+  ))
 
   -- there is room for a want, or there is none
   pub room_or_none : ((address : ℕ) × (room : Slots) × PurgesOrSlides banks slots want address room) ⊎ LacksRoom PurgesOrSlides banks slots want

@@ -1,5 +1,6 @@
 //! Laws that every input has an answer. These functions do nothing: each is there for its contract.
 
+ghost use Rattle.answers.specs.Commands.{WantsAreAnswered, SlidesAreAnswered, CommandsAreAnswered};
 ghost use Rattle.answers.specs.Files.{FilesAreAnswered, LoadFilesAreAnswered, RuntimeFilesAreAnswered};
 ghost use Rattle.answers.specs.Inputs.{DumpsAreAnswered, DictionariesAreAnswered, LibrariesAreAnswered, LoadFilesAreCompacted, LinksAreAnswered, ScriptsAreAnswered};
 
@@ -43,4 +44,15 @@ pub fn links_are_answered()
 /// A text is a script of commands, or has a first bad line.
 pub fn scripts_are_answered()
     ensures { ScriptsAreAnswered }
+{}
+
+/// Among blocks that lie apart, each placed where its want fits, a want has room or has none, and a slide has an outcome.
+pub fn wants_are_answered()
+    ensures room { WantsAreAnswered }
+    ensures slides { SlidesAreAnswered }
+{}
+
+/// In a state with which a loader agrees each command of a script has a reply, and leads to a state.
+pub fn commands_are_answered()
+    ensures { CommandsAreAnswered }
 {}

@@ -61,14 +61,14 @@ read_from (suc n) file before at fits sound pass within small =
         let is : IsSegment s file = record { header = header; last = last; records = run; ended = ended } in
         let lies = header_lies at f file header in
         later (before ++ s ∷ []) (at + f.byte_count) (more_segments before s at file sound refl more is)
-            (all_and_one IsLoadSegment before s pass (record { front = front; records = all })) lies.within (omega (arith, lies.some))
+        (all_and_one IsLoadSegment before s pass (record { front = front; records = all })) lies.within (omega (arith, lies.some))
     by_body later f more header front (Stops founds reader found why run all next stops) =
         at_fault (why, found.0) more
-            (OfRecord f founds reader header front run all (ap answer_fault next ∙ ap (option_map (λ (cause : LoadCause). (cause, found.0))) stops))
-            (refused_cause found.1 why stops)
+        (OfRecord f founds reader header front run all (ap answer_fault next ∙ ap (option_map (λ (cause : LoadCause). (cause, found.0))) stops))
+        (refused_cause found.1 why stops)
     by_body later f more header front (Fails founds reader fault run all next) =
         at_fault (as_load (to_file_record_fault fault)) more (OfRecord f founds reader header front run all (ap answer_fault next))
-            (file_cause (to_file_record_fault fault).0 (record_cause fault))
+        (file_cause (to_file_record_fault fault).0 (record_cause fault))
 
     by_type : LaterAnswers n file → (refusal : Option LoadCause) → at < length file → header_fault (drop at file) ≡ None → segment_refusal (fields_of (drop at file)) ≡ refusal → ReadAnswer file
     by_type later (Some cause) more none is = at_fault (cause, at) more (OfFront (front_by_type at file cause none is)) (segment_cause (fields_of (drop at file)) cause is)
@@ -79,7 +79,7 @@ read_from (suc n) file before at fits sound pass within small =
     by_header : LaterAnswers n file → (found : Option HeaderFault) → at < length file → header_fault (drop at file) ≡ found → ReadAnswer file
     by_header later (Some fault) more is =
         at_fault (as_load (to_file_header_fault at (version_of (drop at file)) fault)) more (OfFront (front_by_header at file fault is))
-            (file_cause (to_file_header_fault at (version_of (drop at file)) fault).0 (header_cause at (version_of (drop at file)) (drop at file) fault is))
+        (file_cause (to_file_header_fault at (version_of (drop at file)) fault).0 (header_cause at (version_of (drop at file)) (drop at file) fault is))
     by_header later None more is = by_type later (segment_refusal (fields_of (drop at file))) more is refl
 
     by_end : LaterAnswers n file → (b : Bool) → ltb at (length file) ≡ b → ReadAnswer file

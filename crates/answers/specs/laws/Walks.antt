@@ -32,8 +32,7 @@ pub shorter_after : (r : Reader) (found : ℕ × Record) → IsBytes r.left → 
 shorter_after r found fits is =
     let f = found_by r found is in
     let takes = front-takes r.layout r.left (found.1, f.rest) fits f.front' in
-    let parts = ap length takes.taken.parts in
-    (
+    let parts = ap length takes.taken.parts in (
       subst IsBytes (sym f.left) takes.taken.rest_fits,
       omega (arith, ap length f.left, parts, length-append (spelling r.layout found.1) f.rest, spelling-some r.layout found.1),
     )
