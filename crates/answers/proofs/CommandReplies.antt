@@ -1,12 +1,11 @@
 -- Each command has a reply and a next state.
-use Rattle.std.proofs.Common.{◌≡◌, ℕ, ◌+◌, ◌<◌, ◌≤◌, Bool, true, false, List, length, map, count_by, Option, Some, None, refl, sym, ap, subst, ◌∙◌, arith}
+use Rattle.std.proofs.Common.{◌≡◌, ℕ, Bool, true, false, List, map, count_by, Some, None, refl}
 use Rattle.std.specs.Prelude.{◌&&◌, ◌/◌, ◌%◌, not, take, drop}
 use Rattle.std.specs.FinMap.{insert}
 use Rattle.std.specs.Option.{option_map_or}
 use Rattle.omf_format.specs.Header.{has_attribute}
 use Rattle.omf_format.specs.File.{Segment, segment_at}
 use Rattle.omf_io.specs.Files.{FileMap}
-use Rattle.iigs_meaning.specs.declared.wants.Block.{Block}
 use Rattle.iigs_meaning.specs.Fits.{Slots, block_in}
 use Rattle.iigs_meaning.specs.Placement.{emptied_where}
 use Rattle.iigs_meaning.specs.Blocks.{AreApart, can_purge_of}
@@ -15,11 +14,11 @@ use Rattle.loader_machine.specs.Rule.{RoomRule}
 use Rattle.loader_machine.specs.declared.seen.SegmentHead.{SegmentHead}
 use Rattle.loader_machine.specs.declared.faults.LoaderFault.TheVariants.{NoUser}
 use Rattle.loader_machine.specs.Presences.{presence_at, handle_at}
-use Rattle.loader_machine.specs.State.{User, UserSeen, Machine, empty_of, outlines, is_attached, handles_of, held_at}
+use Rattle.loader_machine.specs.State.{User, Machine, empty_of, outlines, is_attached, handles_of, held_at}
 use Rattle.loader_machine.specs.Commands.{Command, Banks, Load, LoadSegment, UnloadSegment, Jsl, ShutDown, Restart, Purge, Poke, Bytes, Where, Info, Alloc, Free, Lock, Unlock, Level, StateOf, Room, Compact, Reply, Okay, MadeActive, Counted, Shown, SegmentIs}
-use Rattle.loader_machine.specs.Refusals.{Refuse, of_running, of_segment, of_dynamic, of_active, of_inside, bytes_refusal, info_refusal, load_segment_refusal, unload_refusal, poke_refusal, shut_down_refusal, restart_refusal, purge_refusal}
+use Rattle.loader_machine.specs.Refusals.{Refuse, of_segment, of_dynamic, of_active, of_inside, bytes_refusal, info_refusal, load_segment_refusal, unload_refusal, poke_refusal, shut_down_refusal, restart_refusal, purge_refusal}
 use Rattle.loader_machine.specs.Script.{IsCommand}
-use Rattle.loader_machine.specs.Steps.{Sees, IsSeen, Decides, seen_of, with_slots, with_both, with_segment, idle_block, with_block_changed, StandsIn, MakesActive, StepsJsl, StepsShutDown, StepsRestart, Steps}
+use Rattle.loader_machine.specs.Steps.{Sees, seen_of, with_slots, with_both, with_segment, idle_block, with_block_changed, StandsIn, MakesActive, StepsJsl, StepsShutDown, StepsRestart, Steps}
 use Rattle.loader_agrees.specs.Agrees.{Loaded, Agrees, seen_by}
 use Rattle.loader_agrees.specs.laws.Seeing.{is_seen}
 use Rattle.answers.specs.Commands.{HoldBytes, CommandsAreAnswered}

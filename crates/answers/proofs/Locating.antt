@@ -2,7 +2,7 @@
 use Rattle.std.proofs.Common.{◌≡◌, ◌⊎◌, inl, inr, ℕ, zero, suc, ◌+◌, ◌-◌, ◌<◌, ◌≤◌, Bool, true, false, cond, eqb, List, [], ◌∷◌, length, map, take, drop, Option, Some, None, refl, sym, ap, subst, ◌∙◌, arith}
 use Rattle.std.specs.Prelude.{option_map, slice_get}
 use Rattle.std.proofs.lemmas.Option.{same_Some, slice_get_within}
-use Rattle.std.proofs.lemmas.Bool.{eqb-true, cases_lt}
+use Rattle.std.proofs.lemmas.Bool.{eqb-true}
 use Rattle.std.specs.List.{AllByRecursion}
 use Rattle.omf_format.specs.File.{Segment, segment_at}
 use Rattle.omf_io.specs.Files.{FileMap}
@@ -26,7 +26,7 @@ use Rattle.loader_machine.specs.Presences.{presence_at}
 use Rattle.loader_machine.specs.Found.{HoldsLoad}
 use Rattle.loader_machine.specs.State.{User, UserSeen, Machine, Outline, outline_of, outlines, attached_at, named_by, first_id, user_of, handles_of}
 use Rattle.loader_machine.specs.Commands.{Reply, Entered, Lies, Nothing, Refused}
-use Rattle.loader_machine.specs.Steps.{Sees, IsSeen, Either, IsAt, AddressPlace, Nowhere, In, IsLocated, target_at_code, no_jsl, address_of, StandsIn, MakesActive, StepsJsl}
+use Rattle.loader_machine.specs.Steps.{Sees, IsSeen, Either, IsAt, AddressPlace, Nowhere, In, IsLocated, target_at_code, no_jsl, address_of, MakesActive, StepsJsl}
 use Rattle.loader_machine.specs.laws.OnceLaws.{one_load}
 use Rattle.loader_agrees.specs.Agrees.{LoadedUser, Loaded, Agrees, kept_outlines, outline, LeadsFar, seen_by}
 use Rattle.loader_agrees.specs.laws.Lists.{number_map}

@@ -1,8 +1,8 @@
 -- Blocks are placed one after another, or one of them finds no room; so a program begins, or lacks room.
-use Rattle.std.proofs.Common.{◌≡◌, ◌≢◌, ◌⊎◌, inl, inr, ℕ, zero, suc, ◌+◌, ◌<◌, ◌≤◌, Bool, true, false, cond, eqb, List, [], ◌∷◌, length, map, count_by, Option, Some, None, IsSome, refl, sym, ap, subst, ◌∙◌, arith}
-use Rattle.std.specs.Prelude.{All, slice_set, max, nat_le}
+use Rattle.std.proofs.Common.{◌≡◌, ◌⊎◌, inl, inr, ℕ, suc, ◌≤◌, Bool, true, false, cond, eqb, List, [], ◌∷◌, length, map, count_by, Option, Some, None, IsSome, refl, ap, subst, arith}
+use Rattle.std.specs.Prelude.{slice_set, max, nat_le}
 use Rattle.std.specs.List.{AllByRecursion}
-use Rattle.std.specs.Option.{option_map, option_map_or}
+use Rattle.std.specs.Option.{option_map_or}
 use Rattle.std.proofs.lemmas.Option.{same_Some}
 use Rattle.std.proofs.lemmas.Bool.{cases_lt}
 use Rattle.std.proofs.lemmas.List.{get_or-set_same, get_or-set_other}
@@ -14,7 +14,6 @@ use Rattle.iigs_meaning.specs.declared.slots.Slot.{Slot}
 use Rattle.iigs_meaning.specs.declared.slots.SlotContent.TheVariants.{Used}
 use Rattle.iigs_meaning.specs.declared.wants.Want.{Want}
 use Rattle.iigs_meaning.specs.declared.wants.Block.{Block}
-use Rattle.iigs_meaning.specs.declared.faults.PlaceFault.TheVariants as place
 use Rattle.iigs_meaning.specs.Slots.{slot_at, new_slot, is_free, new_handle, lowest_free, after_take}
 use Rattle.iigs_meaning.specs.Fits.{Slots, IsWant, IsApart, HoldsByte, Fits}
 use Rattle.iigs_meaning.specs.Puts.{LacksRoom, Puts, placed_block, PutsAll, LacksRoomAt}
@@ -33,7 +32,7 @@ use Rattle.loader_machine.specs.declared.faults.LoaderFault.TheVariants.{NoHandl
 use Rattle.loader_machine.specs.Heads.{head_of, is_static, want_of, wants_of, number_of}
 use Rattle.loader_machine.specs.State.{User, Machine, handles_of}
 use Rattle.loader_machine.specs.Commands.{Reply, Started, Refused}
-use Rattle.loader_machine.specs.Steps.{held_of_heads, entry_of, Put, NoSlots, Lacks, PutIn, Begins}
+use Rattle.loader_machine.specs.Steps.{held_of_heads, entry_of, NoSlots, Lacks, PutIn, Begins}
 use Rattle.answers.proofs.Rooms.{room_or_none, IsRoomy, roomy}
 
 -- ---- one block more

@@ -1,36 +1,30 @@
 -- Every command has a reply and a next state.
-use Rattle.std.proofs.Common.{◌≡◌, ◌≢◌, ◌⊎◌, inl, inr, ℕ, zero, suc, ◌+◌, ◌<◌, ◌≤◌, Bool, true, false, cond, eqb, List, [], ◌∷◌, ◌++◌, length, map, take, drop, count_by, Option, Some, None, IsSome, refl, sym, ap, subst, ◌∙◌, arith}
-use Rattle.std.specs.Prelude.{◌&&◌, ◌/◌, ◌%◌, ◌^◌, not, option_map, slice_get}
+use Rattle.std.proofs.Common.{◌≡◌, ◌⊎◌, inl, inr, ℕ, zero, suc, ◌<◌, ◌≤◌, Bool, List, [], ◌∷◌, length, Option, Some, None, refl, sym, ap, subst, ◌∙◌}
+use Rattle.std.specs.Prelude.{◌^◌}
 use Rattle.std.specs.FinMap.{get}
-use Rattle.std.specs.Option.{option_map_or, is_some}
+use Rattle.std.specs.Option.{is_some}
 use Rattle.std.proofs.lemmas.List.{get_or_past}
 use Rattle.std.proofs.lemmas.Option.{same_Some}
 use Rattle.std.proofs.lemmas.Bool.{cases_lt}
-use Rattle.omf_format.specs.Number.{IsBytes}
-use Rattle.omf_format.specs.Header.{has_attribute, is_skipped}
-use Rattle.omf_format.specs.File.{Segment, segment_at}
 use Rattle.omf_io.specs.Files.{FileMap, max_file}
-use Rattle.load_meaning.specs.Pathnames.{paths_of}
 use Rattle.iigs_meaning.specs.declared.handles.Handle.{Handle}
 use Rattle.iigs_meaning.specs.declared.wants.Want.{Want}
 use Rattle.iigs_meaning.specs.declared.wants.Block.{Block}
-use Rattle.iigs_meaning.specs.Slots.{slot_at, new_slot, new_handle, after_take, with_value, after_release}
+use Rattle.iigs_meaning.specs.Slots.{slot_at, new_slot, new_handle, after_take, after_release}
 use Rattle.iigs_meaning.specs.Slots.{get as block_of}
 use Rattle.iigs_meaning.specs.Fits.{Slots, HoldsByte}
-use Rattle.iigs_meaning.specs.Free.{IsFree}
 use Rattle.iigs_meaning.specs.Room.{CountsBelow, IsRoom}
 use Rattle.iigs_meaning.specs.Room.CountsBelow.{none as none_below, one_more as one_below, no_more as not_below}
 use Rattle.iigs_meaning.specs.Puts.{LacksRoom, placed_block}
 use Rattle.iigs_meaning.specs.Blocks.{AreApart, state_of}
 use Rattle.iigs_meaning.specs.Slide.{PurgesOrSlides, Slides, AreSettled, count_moved}
 use Rattle.loader_machine.specs.Rule.{RoomRule}
-use Rattle.loader_machine.specs.declared.faults.LoaderFault.{LoaderFault}
 use Rattle.loader_machine.specs.declared.faults.LoaderFault.TheVariants.{CannotRead, BadFile, NoHandle, NoRoom, Stale}
-use Rattle.loader_machine.specs.Found.{HoldsFile, HoldsLoad, FileFound, Unread, Bad, Good, IsFound, HoldsRuntime, HoldsRuntimeFault, Joined, Stops, Joins, joined_after, AreJoined}
+use Rattle.loader_machine.specs.Found.{HoldsFile, FileFound, Unread, Bad, Good, IsFound, Joined, Stops, Joins, joined_after, AreJoined}
 use Rattle.loader_machine.specs.State.{Machine}
-use Rattle.loader_machine.specs.Commands.{Command, Reply, Okay, Placed, BlockIs, RoomIs, Moved, Refused}
-use Rattle.loader_machine.specs.Refusals.{Refuse, load_refusal, rows_refusal, state_refusal, free_refusal, change_refusal}
-use Rattle.loader_machine.specs.Steps.{Decides, with_slots, with_block_changed, lost_refusal, StepsLoad, StepsAlloc, IsPlaced, HasNoHandle, HasNoRoom, StepsChange}
+use Rattle.loader_machine.specs.Commands.{Reply, Okay, Placed, BlockIs, RoomIs, Moved, Refused}
+use Rattle.loader_machine.specs.Refusals.{Refuse, state_refusal, free_refusal, change_refusal}
+use Rattle.loader_machine.specs.Steps.{Decides, with_slots, with_block_changed, StepsAlloc, IsPlaced, HasNoHandle, HasNoRoom, StepsChange}
 use Rattle.answers.specs.Commands.{HoldBytes}
 use Rattle.answers.specs.laws.Decisions.{Decided}
 use Rattle.answers.specs.laws.LoadAnswers.{LoadAnswer, load_files_are_answered, RuntimeAnswer, runtime_files_are_answered}

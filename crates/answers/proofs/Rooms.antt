@@ -1,6 +1,6 @@
 -- There is room for a want, or there is none; and a slide has an outcome.
-use Rattle.std.proofs.Common.{◌≡◌, ◌⊎◌, inl, inr, ℕ, zero, suc, ◌+◌, ◌*◌, ◌/◌, ◌%◌, ◌<◌, ◌≤◌, Bool, true, false, List, [], ◌∷◌, length, Option, Some, None, refl, sym, ap, subst, ◌∙◌, arith}
-use Rattle.std.specs.Prelude.{All, Contains, IsTrue, slice_index_or, IsSomeAnd}
+use Rattle.std.proofs.Common.{◌≡◌, ◌⊎◌, inl, inr, ℕ, zero, suc, ◌+◌, ◌*◌, ◌%◌, ◌<◌, ◌≤◌, Bool, true, false, List, [], ◌∷◌, length, Option, Some, None, refl, sym, ap, subst, ◌∙◌, arith}
+use Rattle.std.specs.Prelude.{All, slice_index_or, IsSomeAnd}
 use Rattle.std.proofs.lemmas.List.{get_or_default, get_or_past}
 use Rattle.std.proofs.lemmas.Bool.{cases_lt, cases_eq}
 use Rattle.iigs_meaning.specs.declared.slots.Slot.{Slot}
@@ -9,12 +9,12 @@ use Rattle.iigs_meaning.specs.declared.wants.Block.{Block}
 use Rattle.iigs_meaning.specs.Slots.{slot_at, new_slot}
 use Rattle.iigs_meaning.specs.Free.{bank_of, low_of, is_special, first_free, free_end, IsFree}
 use Rattle.iigs_meaning.specs.Fits.{Slots, block_in, HoldsByte, IsApart, Fits}
-use Rattle.iigs_meaning.specs.Placement.{count_purgeable, slots_after_purges, GoesTo, HasNoRoom}
+use Rattle.iigs_meaning.specs.Placement.{count_purgeable, slots_after_purges, HasNoRoom}
 use Rattle.iigs_meaning.specs.Puts.{Purges, LacksRoom}
 use Rattle.iigs_meaning.specs.Blocks.{AreApart}
-use Rattle.iigs_meaning.specs.Slide.{movable_block, place_of, FitsBeside, Slides, MakesBySlide, PurgesOrSlides, AreSettled}
+use Rattle.iigs_meaning.specs.Slide.{movable_block, place_of, Slides, PurgesOrSlides, AreSettled}
 use Rattle.iigs_meaning.specs.laws.PurgeLaws.{emptied_past}
-use Rattle.iigs_meaning.specs.laws.SlideLaws.{AreMoved, AreSlidTo, SinksTo, IsNext, without, with_moved, turn_fits, from_slide, slid_next, slid_none, slid_all, slides_once, mover_stays}
+use Rattle.iigs_meaning.specs.laws.SlideLaws.{AreSlidTo, SinksTo, IsNext, without, with_moved, turn_fits, from_slide, slid_next, slid_none, slid_all, slides_once, mover_stays}
 use Rattle.iigs_meaning.specs.laws.SlideRoomLaws.{lacks_room_by_slides, slid_apart, slid_settled}
 use Rattle.iigs_places.specs.Offsets.{is_named}
 use Rattle.iigs_places.proofs.Counts.{named-Contains}

@@ -1,41 +1,37 @@
 -- Commands on users have replies.
-use Rattle.std.proofs.Common.{◌≡◌, ◌≢◌, ◌⊎◌, inl, inr, ℕ, zero, suc, ◌+◌, ◌<◌, ◌≤◌, Bool, true, false, cond, List, [], ◌∷◌, ◌++◌, length, map, take, drop, count_by, Option, Some, None, IsSome, refl, sym, ap, subst, ◌∙◌, arith}
+use Rattle.std.proofs.Common.{◌≡◌, ◌⊎◌, inl, inr, ℕ, zero, suc, ◌+◌, Bool, true, false, cond, List, ◌∷◌, ◌++◌, length, map, Option, Some, None, refl, sym, ap, subst, ◌∙◌}
 use Rattle.std.specs.Prelude.{option_map}
-use Rattle.std.specs.FinMap.{insert}
-use Rattle.std.specs.Option.{option_map_or, is_some}
-use Rattle.omf_format.specs.Header.{is_skipped, is_dynamic}
+use Rattle.std.specs.Option.{is_some}
 use Rattle.omf_format.specs.File.{Segment, segment_at}
 use Rattle.omf_io.specs.Files.{FileMap}
 use Rattle.load_meaning.specs.Pathnames.{paths_of}
 use Rattle.iigs_meaning.specs.declared.handles.Handle.{Handle}
 use Rattle.iigs_meaning.specs.declared.wants.Block.{Block}
 use Rattle.iigs_meaning.specs.Slots.{get, new_handle, after_take, with_value}
-use Rattle.iigs_meaning.specs.Fits.{Slots, block_in}
-use Rattle.iigs_meaning.specs.Placement.{emptied_where}
+use Rattle.iigs_meaning.specs.Fits.{Slots}
 use Rattle.iigs_meaning.specs.Puts.{LacksRoom, placed_block, without_user}
-use Rattle.iigs_meaning.specs.Blocks.{AreApart, can_purge_of}
+use Rattle.iigs_meaning.specs.Blocks.{AreApart}
 use Rattle.iigs_meaning.specs.Slide.{PurgesOrSlides, AreSettled}
 use Rattle.iigs_places.proofs.Starts.{start_sound}
 use Rattle.iigs_compact_memory.proofs.Settled.{settled_for}
 use Rattle.loader_machine.specs.Rule.{RoomRule}
 use Rattle.loader_machine.specs.declared.seen.SegmentHead.{SegmentHead}
-use Rattle.loader_machine.specs.declared.seen.Life.TheVariants.{Running, Dormant}
+use Rattle.loader_machine.specs.declared.seen.Life.TheVariants.{Running}
 use Rattle.loader_machine.specs.declared.seen.Presence.{Presence}
 use Rattle.loader_machine.specs.declared.seen.Presence.TheVariants.{Absent, Purged, Idle, Active}
 use Rattle.loader_machine.specs.declared.faults.LoaderFault.TheVariants.{CannotRead, BadFile, NoHandle, NoRoom, NoSegment, NotRunning}
 use Rattle.loader_machine.specs.Heads.{head_of, at_number, want_of}
 use Rattle.loader_machine.specs.Presences.{presence, presence_at, handle_at, lies_in, lies_at}
 use Rattle.loader_machine.specs.Found.{FileFound, Unread, Bad, Good, IsFound, Joined, Stops, Joins, AreJoined}
-use Rattle.loader_machine.specs.Stands.{stands, setting_with, far_of}
-use Rattle.loader_machine.specs.State.{User, UserSeen, Machine, is_running, first_id, user_of, with_user, handles_of, held_at, outlines, is_attached, with_all, without_all, ids_from, handles_in, fresh}
-use Rattle.loader_machine.specs.Commands.{Reply, Okay, Started, MadeActive, Counted, Shown, SegmentIs, Refused}
-use Rattle.loader_machine.specs.Refusals.{Refuse, of_running, of_segment, load_refusal, rows_refusal, bytes_refusal, info_refusal, load_segment_refusal, unload_refusal, poke_refusal, shut_down_refusal, restart_refusal, purge_refusal}
-use Rattle.loader_machine.specs.Steps.{Sees, IsSeen, Decides, Does, Either, seen_of, with_slots, with_both, with_segment, active_block, idle_block, with_block_changed, changed_all, entry_of, Begins, joined_users, lost_refusal, StepsLoad, Activation, OutOfSlots, OutOfRoom, Made, MakesActive, StandsIn, StepsShutDown, are_there, static_handles, read_again, StepsRestart}
+use Rattle.loader_machine.specs.State.{User, UserSeen, Machine, is_running, first_id, user_of, with_user, handles_of, with_all, ids_from, fresh}
+use Rattle.loader_machine.specs.Commands.{Reply, Okay, Started, Refused}
+use Rattle.loader_machine.specs.Refusals.{Refuse, of_running, of_segment, load_refusal, rows_refusal}
+use Rattle.loader_machine.specs.Steps.{Sees, IsSeen, Decides, Does, seen_of, with_slots, with_both, with_segment, active_block, with_block_changed, changed_all, entry_of, Begins, joined_users, lost_refusal, StepsLoad, OutOfSlots, OutOfRoom, Made, MakesActive, StandsIn, StepsShutDown, are_there, static_handles, read_again, StepsRestart}
 use Rattle.loader_agrees.specs.Agrees.{Loaded, Agrees, seen_by}
 use Rattle.loader_agrees.specs.laws.Lists.{number_map}
 use Rattle.loader_agrees.specs.laws.Seeing.{is_seen}
 use Rattle.answers.proofs.Rooms.{room_or_none}
-use Rattle.answers.proofs.Placements.{want_is, BeginAnswer, begins_or_lacks}
+use Rattle.answers.proofs.Placements.{want_is, begins_or_lacks}
 use Rattle.answers.specs.Commands.{HoldBytes}
 use Rattle.answers.proofs.Replying.{found_or, joined_or, decide_by}
 

@@ -1,5 +1,5 @@
 -- A file has a canonical form, or a first fault as a load file, or a first broken part, or its form is too long.
-use Rattle.std.proofs.Common.{◌≡◌, ◌≢◌, ◌⊎◌, inl, inr, ℕ, ◌<◌, ◌≤◌, Bool, true, false, ltb, ltb-true, ltb-false, List, length, Option, Some, None, refl}
+use Rattle.std.proofs.Common.{◌≡◌, ◌≢◌, ◌⊎◌, inl, inr, ℕ, Bool, true, false, ltb, ltb-true, ltb-false, List, length, Option, Some, None, refl}
 use Rattle.omf_io.specs.Files.{max_file}
 use Rattle.omf_format.specs.File.{Segment}
 use Rattle.load_meaning.specs.declared.load.LoadCause.{LoadCause}

@@ -1,5 +1,5 @@
 -- What can be decided, and the first of a list that has something.
-use Rattle.std.proofs.Common.{◌≡◌, ◌⊎◌, inl, inr, Bool, true, false, List, [], ◌∷◌, ◌++◌, refl, sym, ap, subst, ◌∙◌, append_assoc}
+use Rattle.std.proofs.Common.{◌≡◌, ◌⊎◌, inl, inr, Bool, true, false, List, [], ◌∷◌, ◌++◌, refl, sym, subst, ◌∙◌, append_assoc}
 use Rattle.std.proofs.lemmas.List.{append-nil}
 use Rattle.link_meaning.specs.First.{IsFirst, HasNone, IsIn}
 use Rattle.link_meaning.specs.laws.FirstLaws.{none_yet, none_more}

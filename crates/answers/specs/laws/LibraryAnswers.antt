@@ -1,20 +1,18 @@
 -- A file has a listing or a first fault, a library its rows, and files their library, or a first fault.
-use Rattle.std.proofs.Common.{◌≡◌, ◌≢◌, ◌⊎◌, inl, inr, ℕ, suc, ◌+◌, ◌<◌, ◌≤◌, Bool, true, false, ltb, ltb-true, ltb-false, List, [], ◌∷◌, ◌++◌, length, map, Option, Some, None, Result, Ok, Err, refl, sym, ap, subst, ◌∙◌, append_assoc, arith}
+use Rattle.std.proofs.Common.{◌≡◌, ◌≢◌, ◌⊎◌, inl, inr, ℕ, ◌+◌, Bool, true, false, ltb, ltb-true, ltb-false, List, [], ◌∷◌, ◌++◌, length, map, Result, Ok, Err, refl, ap, subst}
 use Rattle.std.specs.List.{AllByRecursion, list_any}
 use Rattle.omf_format.specs.declared.fault.FileCause.{FileCause}
 use Rattle.omf_format.specs.declared.fault.FileCause.TheVariants as files
-use Rattle.omf_format.specs.declared.fault.FileFault.{FileFault}
 use Rattle.omf_format.specs.Number.{IsBytes}
-use Rattle.omf_format.specs.File.{Segment, IsFile, IsFirstFault}
+use Rattle.omf_format.specs.File.{Segment, IsFile}
 use Rattle.link_meaning.specs.Member.{OfferedRow, is_library}
 use Rattle.link_meaning.specs.Dictionary.{rows_of}
 use Rattle.object_meaning.specs.Sizes.{most_bytes}
-use Rattle.lib_dict.specs.declared.fault.LibCause.{LibCause}
-use Rattle.lib_dict.specs.declared.fault.LibCause.TheVariants.{BadRecord, TooLong, Memory}
+use Rattle.lib_dict.specs.declared.fault.LibCause.TheVariants.{TooLong, Memory}
 use Rattle.lib_dict.specs.declared.fault.LibFault.{LibFault}
-use Rattle.lib_dict.specs.Library.{LibraryInput, LibraryFile, LibraryRow, is_dictionary, IsMember, AreMembers, IsLibraryOf, IsTooLong, HasDictionary, HasRows, IsNoLibrary, IsFalseAt, row_view, library_bytes}
+use Rattle.lib_dict.specs.Library.{LibraryInput, LibraryFile, is_dictionary, IsMember, AreMembers, IsLibraryOf, IsTooLong, row_view, library_bytes}
 use Rattle.lib_dict.specs.Made.{lib_cause, HasMemberFault, InFile, OfDictionary, IsFirstMemberFault, IsNowhere, ByCause, IsLibRefused}
-use Rattle.dump_lines.specs.Listing.{listing_from, IsListing}
+use Rattle.dump_lines.specs.Listing.{listing_from}
 use Rattle.answers.specs.Inputs.{DumpsAreAnswered, DictionariesAreAnswered, LibrariesAreAnswered, DictionaryAnswer}
 use Rattle.answers.specs.laws.FileAnswers.{FileAnswer, files_are_answered}
 

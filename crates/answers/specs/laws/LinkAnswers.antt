@@ -1,5 +1,5 @@
 -- Files have a load file, or a first fault of a phase.
-use Rattle.std.proofs.Common.{◌≡◌, ◌⊎◌, inl, inr, ℕ, ◌+◌, ◌<◌, ◌≤◌, Bool, true, false, ltb, ltb-true, ltb-false, eqb, List, [], ◌∷◌, ◌++◌, length, map, Option, Some, None, Result, Ok, Err, refl, sym, ap, subst, ◌∙◌, append_assoc, arith}
+use Rattle.std.proofs.Common.{◌≡◌, ◌⊎◌, inl, inr, ℕ, ◌+◌, ◌<◌, Bool, true, false, ltb, ltb-true, ltb-false, eqb, List, [], ◌∷◌, ◌++◌, length, map, Option, Some, None, Result, Ok, Err, refl, sym, ap, subst, ◌∙◌, append_assoc, arith}
 use Rattle.std.proofs.lemmas.List.{append-nil}
 use Rattle.std.proofs.lemmas.Bool.{eqb-true, eq-eqb}
 use Rattle.std.specs.Prelude.{◌&&◌, ◌||◌, not, nat_lt, ◌==◌, slice_get}
@@ -16,20 +16,19 @@ use Rattle.lib_dict.specs.DictionaryLayout.{RowsAreLaidOut}
 use Rattle.link_meaning.specs.declared.fault.LinkCause.{LinkCause}
 use Rattle.link_meaning.specs.declared.fault.LinkCause.TheVariants.{BadLibrary, Empty, OrgConflict, TooManySegments, SegmentTooLong, NotDynamic, Circular, FileTooLong}
 use Rattle.link_meaning.specs.declared.fault.LinkFault.{LinkFault}
-use Rattle.link_meaning.specs.declared.form.LinkForm.{LinkForm}
 use Rattle.link_meaning.specs.declared.form.LinkForm.TheVariants.{Program, Runtime as LibraryForm}
 use Rattle.link_meaning.specs.First.{IsFirst, HasNone, IsIn}
 use Rattle.link_meaning.specs.laws.FirstLaws.{none_yet, none_more}
 use Rattle.link_meaning.specs.Member.{OfferedRow, Input, RuntimeFile, LinkSetting, Member, objects, form_in}
 use Rattle.link_meaning.specs.Search.{FoundDefinition}
-use Rattle.link_meaning.specs.LinkedList.{PlacedUse, all_uses, found_for, IsLinked}
+use Rattle.link_meaning.specs.LinkedList.{PlacedUse, all_uses, found_for}
 use Rattle.link_meaning.specs.Layout.{in_load, load_names, load_members, load_headers}
 use Rattle.link_meaning.specs.Cycles.{equates, IsCircular}
 use Rattle.link_meaning.specs.LinkValues.{EquateAnswer, IsTable}
 use Rattle.link_meaning.specs.LinkedCells.{Item, Made, items, state_after, made}
 use Rattle.link_meaning.specs.LinkWritten.{written_file}
-use Rattle.link_meaning.specs.LinkFaults.{no_spot, spot_in, link_cause, segments_fault, rows_in_file, HasFileFault, OfFile, OfSegment, OfDictionary, IsInput, AreInputs, runtime_cause, HasRuntimeFault, AreRuntimes, LinkInput, HasBytes, InputPart, OfInput, OfRuntime, HasPartFault, IsSetting, IsProgram, use_cause, HasUseFault, HasOrgFault, first_spot, HasCountFault, HasLengthFault, HasKindFault, LayoutCheck, Orgs, Count, Lengths, Kinds, HasLayoutFault, Phase, Reading, Objects, Names, Layout, HasPhaseFault, IsFirstResolveFault, IsResolved}
-use Rattle.link_meaning.specs.EmitFaults.{HasCycleFault, HasValueFault, HasSizeFault, EmitPhase, Cycles, Values, Size, HasEmitFault, IsFirstEmitFault, IsEmitted, IsFirstLinkFault, OfResolving, OfEmitting, IsLinkedTo}
+use Rattle.link_meaning.specs.LinkFaults.{no_spot, spot_in, link_cause, segments_fault, rows_in_file, HasFileFault, OfFile, OfSegment, OfDictionary, IsInput, AreInputs, runtime_cause, AreRuntimes, LinkInput, HasBytes, InputPart, OfInput, OfRuntime, HasPartFault, IsSetting, IsProgram, use_cause, HasUseFault, HasOrgFault, first_spot, HasCountFault, HasLengthFault, HasKindFault, LayoutCheck, Orgs, Count, Lengths, Kinds, HasLayoutFault, Phase, Reading, Objects, Names, Layout, HasPhaseFault, IsFirstResolveFault, IsResolved}
+use Rattle.link_meaning.specs.EmitFaults.{HasCycleFault, HasValueFault, EmitPhase, Cycles, Values, Size, HasEmitFault, IsFirstEmitFault, IsEmitted, IsFirstLinkFault, OfResolving, OfEmitting, IsLinkedTo}
 use Rattle.link_meaning.specs.laws.LinkFaultLaws.{inputs_same, setting_same, one_program}
 use Rattle.link_meaning.specs.laws.TableLaws.{one_table}
 use Rattle.link_meaning.specs.laws.EquatePlaces.{apart}
@@ -37,7 +36,7 @@ use Rattle.link_meaning.specs.laws.EquateTables.{table_without_cycles}
 use Rattle.answers.specs.Inputs.{LinksAreAnswered}
 use Rattle.answers.specs.laws.FileAnswers.{FileAnswer, files_are_answered}
 use Rattle.answers.specs.laws.LoadAnswers.{RuntimeAnswer, runtime_files_are_answered}
-use Rattle.answers.specs.laws.Decisions.{Decided, is_it, HasOrNot, FirstOrNone, first_or_none, no_first, is_in_middle}
+use Rattle.answers.specs.laws.Decisions.{is_it, HasOrNot, FirstOrNone, first_or_none, no_first, is_in_middle}
 use Rattle.answers.specs.laws.CycleDecisions.{circular_or_not}
 use Rattle.answers.specs.laws.LinkedLists.{linked_list}
 

@@ -1,12 +1,11 @@
 -- There is a linked list: each member that is wanted is new, and the rows are finitely many.
-use Rattle.std.proofs.Common.{◌≡◌, ◌⊎◌, inl, inr, ℕ, zero, suc, ◌+◌, ◌-◌, ◌<◌, ◌≤◌, Bool, true, false, List, [], ◌∷◌, ◌++◌, length, Option, Some, None, Result, Ok, refl, sym, ap, subst, ◌∙◌, append_assoc, arith}
+use Rattle.std.proofs.Common.{◌≡◌, ◌⊎◌, inl, inr, ℕ, zero, suc, ◌+◌, ◌-◌, ◌<◌, Bool, true, false, List, [], ◌∷◌, ◌++◌, length, Option, Some, None, Result, Ok, refl, sym, ap, subst, ◌∙◌, arith}
 use Rattle.std.specs.Prelude.{◌&&◌, ◌==◌, not, slice_get, option_map, if◌then◌else◌}
 use Rattle.std.specs.Option.{option_or}
 use Rattle.std.specs.List.{filter_map, cons_option}
 use Rattle.std.specs.Str.{bytes_eq}
 use Rattle.omf_format.specs.File.{Segment, segment_at}
-use Rattle.object_meaning.specs.Defines.{Definition, outer_scope, defined_in}
-use Rattle.lib_dict.specs.DictionaryLayout.{RowsAreLaidOut, DefinesSo, IsRow, AreRows, IsDictionary}
+use Rattle.lib_dict.specs.DictionaryLayout.{RowsAreLaidOut, DefinesSo, AreRows, IsDictionary}
 use Rattle.link_meaning.specs.declared.search.SearchKind.{SearchKind}
 use Rattle.link_meaning.specs.declared.search.SearchKind.TheVariants.{Data, One, Any}
 use Rattle.link_meaning.specs.First.{IsIn}
@@ -16,7 +15,7 @@ use Rattle.link_meaning.specs.Dictionary.{rows_of}
 use Rattle.link_meaning.specs.Search.{FoundDefinition, finds, finds_data}
 use Rattle.link_meaning.specs.Uses.{Use}
 use Rattle.link_meaning.specs.LinkedList.{PlacedUse, counts_for, first_offer, row_for, found_for, wanted_by, all_uses, wanted, Follow, IsLinked}
-use Rattle.link_meaning.specs.LinkFaults.{rows_in_file, IsInput, AreInputs}
+use Rattle.link_meaning.specs.LinkFaults.{IsInput, AreInputs}
 use Rattle.link_meaning.specs.laws.ProgressLaws.{AreSound, fresh_name, fresh_data}
 use Rattle.link_meaning.specs.laws.Steps.{unless_found}
 

@@ -1,19 +1,17 @@
 -- A file is a load file, or has a first fault as one.
-use Rattle.std.proofs.Common.{◌≡◌, ◌≢◌, ◌⊎◌, inl, inr, ℕ, zero, suc, ◌+◌, ◌<◌, ◌≤◌, Bool, true, false, ltb, ltb-true, ltb-false, List, [], ◌∷◌, ◌++◌, length, drop, Option, Some, None, Ok, Err, refl, sym, ap, subst, ◌∙◌, arith}
+use Rattle.std.proofs.Common.{◌≡◌, ◌≢◌, ◌⊎◌, inl, inr, ℕ, zero, suc, ◌+◌, ◌<◌, ◌≤◌, Bool, true, false, ltb, ltb-true, ltb-false, List, [], ◌∷◌, ◌++◌, length, drop, Option, Some, None, refl, ap, subst, ◌∙◌, arith}
 use Rattle.std.specs.Prelude.{option_map}
 use Rattle.std.specs.List.{AllByRecursion}
 use Rattle.omf_format.specs.declared.fault.HeaderFault.{HeaderFault}
 use Rattle.omf_format.specs.Number.{IsBytes}
 use Rattle.omf_format.specs.Header.{HeaderFields, fields_of, version_of, header_fault}
-use Rattle.omf_format.specs.Record.{Record}
-use Rattle.omf_format.specs.Reading.{next_answer}
 use Rattle.omf_format.specs.File.{Segment, body_reader, IsHeader, IsSegment, AreSegments, IsFile, to_file_header_fault, to_file_record_fault}
 use Rattle.omf_format.specs.laws.FileLaws.{header_lies}
 use Rattle.omf_format.specs.laws.BodyLaws.{body_fits}
 use Rattle.load_meaning.specs.declared.load.LoadCause.{LoadCause}
 use Rattle.load_meaning.specs.declared.load.LoadCause.TheVariants.{NotLoadFile, Memory}
 use Rattle.load_meaning.specs.declared.load.LoadFault.{LoadFault}
-use Rattle.load_meaning.specs.Loadable.{Fault, segment_refusal, record_refusal, as_load, front_fault, answer_fault, IsLoadSegment, HasReadFault, OfFront, OfRecord, IsReadFault, later_fault, IsLaterFault, IsLoadable, IsFirstLoadFault, IsEmpty, OfReading, OfSegments}
+use Rattle.load_meaning.specs.Loadable.{Fault, segment_refusal, record_refusal, as_load, front_fault, answer_fault, IsLoadSegment, HasReadFault, OfFront, OfRecord, IsReadFault, later_fault, IsLoadable, IsFirstLoadFault, IsEmpty, OfReading, OfSegments}
 use Rattle.load_meaning.specs.Runtime.{runtime_fault, IsRuntime, IsFirstRuntimeFault, OfLoading, OfKind}
 use Rattle.answers.specs.Files.{LoadFilesAreAnswered, RuntimeFilesAreAnswered}
 use Rattle.answers.specs.laws.Walks.{Comes, Ends, Stops, Fails, reader_comes}

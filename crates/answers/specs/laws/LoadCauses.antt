@@ -1,16 +1,15 @@
 -- No fault of a load file is want of memory.
-use Rattle.std.proofs.Common.{◌≡◌, ◌≢◌, ◌⊎◌, inl, inr, ℕ, ◌+◌, Bool, true, false, cond, List, [], ◌∷◌, Option, Some, None, refl, sym, ap, subst, ◌∙◌}
+use Rattle.std.proofs.Common.{◌≡◌, ◌≢◌, inl, inr, ℕ, ◌+◌, Bool, true, false, cond, List, [], ◌∷◌, Option, Some, None, refl, ap, subst}
 use Rattle.std.specs.Prelude.{option_map, nat_lt, not, ◌==◌, ◌&&◌, ◌||◌, codes, length}
 use Rattle.std.specs.Str.{bytes_eq}
 use Rattle.std.specs.Option.{option_map_or}
-use Rattle.std.specs.Option.{option_or}
 use Rattle.omf_format.specs.declared.fault.FileCause.{FileCause}
 use Rattle.omf_format.specs.declared.fault.FileCause.TheVariants as files
 use Rattle.load_meaning.specs.declared.load.LoadCause.{LoadCause}
 use Rattle.load_meaning.specs.declared.load.LoadCause.TheVariants.{NotLoadFile, Unsupported, Sequence, DataTooLong, PatchOutside, NoSuchTarget, DynamicTarget, BadTable, Memory}
 use Rattle.load_meaning.specs.declared.load.LoadFault.{LoadFault}
 use Rattle.omf_format.specs.Header.{HeaderFields, form_of, is_skipped, is_dynamic}
-use Rattle.omf_format.specs.Record.{Record, End, Const, LongConst, Align, Org, Space, Reloc, InterSeg, ShortReloc, ShortInterSeg, Super, Using, Strong, Label, Equate, Formula, Entry}
+use Rattle.omf_format.specs.Record.{Record, Align, Org, Using, Strong, Label, Equate, Formula, Entry}
 use Rattle.omf_format.specs.File.{Segment, segment_at}
 use Rattle.omf_format.specs.Body.{body_bytes}
 use Rattle.load_meaning.specs.Cells.{Patch, patches_in}
