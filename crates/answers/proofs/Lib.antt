@@ -1,0 +1,7 @@
+pub mod Deciding
+pub mod Rooms
+pub mod Placements
+pub mod Replying
+pub mod UserReplies
+pub mod Locating
+pub mod CommandReplies

@@ -1,0 +1,12 @@
+pub mod Walks
+pub mod Options
+pub mod FileAnswers
+pub mod LoadCauses
+pub mod LoadAnswers
+pub mod ScriptAnswers
+pub mod LibraryAnswers
+pub mod Decisions
+pub mod CycleDecisions
+pub mod LinkedLists
+pub mod LinkAnswers
+pub mod CompactAnswers
