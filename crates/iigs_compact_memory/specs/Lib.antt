@@ -1,7 +1,6 @@
 pub mod Laws
 pub mod Carried
 pub mod Needs
-pub mod Still
 pub mod Alls
 pub mod Lending
 pub use Rattle.iigs_places.specs.Holder

@@ -9,6 +9,10 @@ use Rattle.iigs_meaning.specs.Slide.{Slides}
 abbrev pub NoneAfter : List ℕ → Slots → Want → ℕ → Type 0
 NoneAfter banks slots want count = (room : Slots) → Slides banks (slots_after_purges slots count) room → (address : ℕ) → ¬ Fits banks room want address
 
+-- with `count` blocks purged the want fits somewhere after a slide, which leaves these slots
+abbrev pub FitsSlid : List ℕ → Slots → Want → ℕ → Slots → Type 0
+FitsSlid banks slots want count room = Slides banks (slots_after_purges slots count) room × ((address : ℕ) × Fits banks room want address)
+
 -- with `count` blocks purged the want fits somewhere after a slide, and with fewer it fits nowhere
 pub record NeedsPurges (banks : List ℕ) (slots : Slots) (want : Want) (count : ℕ) (room : Slots) : Type 0 where
   pub slides : Slides banks (slots_after_purges slots count) room

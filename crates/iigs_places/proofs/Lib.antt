@@ -25,6 +25,8 @@ pub mod Quick
 pub mod Puts
 pub mod Moved
 pub mod Sliding
+pub mod NoSlide
+pub mod TriedSlide
 pub mod Lasting
 pub mod Orders
 pub mod Fresh

@@ -45,10 +45,10 @@ there_extent block at is = rw is refl
 pub block_extent : (slot : Slot Block) (block : Block) (at : ℕ) → block_in slot ≡ Some block → block.at ≡ Some at → extent slot ≡ Some (at, block.want.size)
 block_extent slot block at is lies' = ap (option_and_then extent_of) is ∙ there_extent block at lies'
 
-mover_extent : (slot : Slot Block) (block : Block) → movable_block slot ≡ Some block → extent slot ≡ Some (place_of block, block.want.size)
+pub mover_extent : (slot : Slot Block) (block : Block) → movable_block slot ≡ Some block → extent slot ≡ Some (place_of block, block.want.size)
 mover_extent slot block m = block_extent slot block (place_of block) (mover_in slot block m).0 (lies slot block m)
 
-same_extent : (e f : ℕ × ℕ) → Some e ≡ Some f → e ≡ f
+pub same_extent : (e f : ℕ × ℕ) → Some e ≡ Some f → e ≡ f
 same_extent e f is = cc
 
 -- the slot's block is as its extent says
@@ -282,11 +282,11 @@ module _ (banks : List ℕ) (slots : Slots) (arranged : IsArranged banks slots) 
 
 -- ---- how many were passed
 
-below_more : (limit more : ℕ) (o : Option ℕ) → limit ≤ more → option_map_or (λ at. nat_lt at limit) o false ≡ true → option_map_or (λ at. nat_lt at more) o false ≡ true
+pub below_more : (limit more : ℕ) (o : Option ℕ) → limit ≤ more → option_map_or (λ at. nat_lt at limit) o false ≡ true → option_map_or (λ at. nat_lt at more) o false ≡ true
 below_more limit more None le is = is
 below_more limit more (Some at) le is = grind (arith, nat_tests)
 
-address_reported : (slot : Slot Block) (e : ℕ × ℕ) → extent slot ≡ Some e → address_in slot ≡ Some e.0
+pub address_reported : (slot : Slot Block) (e : ℕ × ℕ) → extent slot ≡ Some e → address_in slot ≡ Some e.0
 address_reported slot e is = address_extent slot ∙ ap (option_map (λ (x : ℕ × ℕ). x.0)) is
 
 pub passed_count : (banks : List ℕ) (slots next : Slots) (place address size to limit : ℕ) (there : extent (slot_at slots place) ≡ Some (address, size)) (arranged : IsArranged banks slots)

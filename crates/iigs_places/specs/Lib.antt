@@ -9,5 +9,7 @@ pub mod Alls
 pub mod Marks
 pub mod Runs
 pub mod Sliding
+pub mod Fixed
+pub mod Tried
 pub mod Lowest
 pub mod Holder

@@ -5,6 +5,7 @@
 #![tactic(auto)]
 
 mod bank_map;
+mod fixed;
 mod layout;
 mod marks;
 mod moves;
@@ -15,6 +16,7 @@ mod search;
 mod slide;
 mod spots;
 mod table;
+mod tried;
 
 pub use places::BlockPlaces;
 pub use table::PlacedBlock;

@@ -18,8 +18,11 @@ ghost use Rattle.iigs_places.specs.Sizes.{free_below, lasting_in};
 ghost use Rattle.iigs_places.specs.Arranged.{IsArranged};
 ghost use Rattle.iigs_places.specs.Table.{IsPut, IsReput};
 ghost use Rattle.iigs_places.specs.Alls.{AllPut};
+ghost use Rattle.iigs_places.specs.Fixed.{NeverFits};
+ghost use Rattle.iigs_places.specs.Tried.{FitsNowhereSlid};
 
 use crate::bank_map::BankMap;
+use crate::fixed::gather_fixed;
 use crate::layout::{BlockLayout, join, lay_all, lay_less, new_layout};
 use crate::marks::{first_from, last_mark};
 use crate::moves::{count_purgeable, empty_block, purge_first, shift_block};
@@ -30,6 +33,7 @@ use crate::table::{
     PlacedBlock, lasting_bytes, purge_user, put_all, put_block, replace_block, set, start_plan,
     used_bytes,
 };
+use crate::tried::gather_slid;
 use iigs_handles::{Handles, HandlesFault, SLOTS};
 use iigs_meaning::{
     BanksFault, Block, EmptyFault, Handle, PlaceFault, ShiftFault, SlotContent, Stale, Want,
@@ -410,6 +414,28 @@ impl BlockPlaces {
     {
         join(&mut self.layout);
         least_among(&self.map, want, &self.layout.runs, 0).is_some()
+    }
+
+    /// Whether a want fits anywhere beside the blocks that no slide moves, whatever other blocks are there too: those that stay,
+    /// and those that fit nowhere lower beside the ones of these below them.
+    pub fn may_fit(&mut self, want: &Want) -> bool
+        requires { IsWant want.now }
+        ensures no { result ≡ false → NeverFits self.old.banks self.old.slots want.now }
+        ensures same { self.new ≡ self.old }
+    {
+        gather_fixed(&self.map, &self.table, &self.layout, &mut self.spots);
+        least_among(&self.map, want, &self.spots, 0).is_some()
+    }
+
+    /// Whether a want fits anywhere once the movable blocks are slid down. None is moved.
+    pub fn fits_slid(&mut self, want: &Want) -> bool
+        requires want { IsWant want.now }
+        requires settled { AreSettled self.old.banks self.old.slots }
+        ensures no { result ≡ false → FitsNowhereSlid self.old.banks self.old.slots want.now }
+        ensures same { self.new ≡ self.old }
+    {
+        gather_slid(&self.map, &self.table, &self.layout, &mut self.spots);
+        least_among(&self.map, want, &self.spots, 0).is_some()
     }
 
     /// How many bytes of free memory lie in no block.

@@ -18,22 +18,23 @@ use crate::spots::BlockSpot;
 use iigs_handles::Handles;
 use iigs_meaning::{Block, Handle, SlotContent};
 
+/// Whether a block moves in a slide.
 #[tactic(auto, unfolding(iigs_meaning::specs::Slide::can_move))]
-fn can_be_moved(block: &Block) -> bool
+pub fn can_be_moved(block: &Block) -> bool
     ensures { result ≡ can_move block.now }
 {
     block.at.is_some() && block.movable && !block.locked
 }
 
-// A block, and the generation of its handle.
+/// A block, and the generation of its handle.
 #[derive(Clone, Copy)]
-struct MarkedBlock {
-    generation: u8,
-    block: Block,
+pub struct MarkedBlock {
+    pub generation: u8,
+    pub block: Block,
 }
 
-// The block in a slot.
-fn held_in(table: &Handles<Block>, slot: u16) -> MarkedBlock
+/// The block in a slot.
+pub fn held_in(table: &Handles<Block>, slot: u16) -> MarkedBlock
     requires place { slot < 4096 }
     requires there { IsSome (block_in (slot_at table.now slot)) }
     ensures { get table.now (record { slot = slot; generation = result.generation }) ≡ Some result.block }
