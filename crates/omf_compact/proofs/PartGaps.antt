@@ -1,22 +1,22 @@
 -- Cells between patches: where no spot begins, none is over a cell that isn't over the one before.
 use Rattle.std.proofs.Common.{◌≡◌, ℕ, zero, suc, ◌+◌, ◌-◌, ◌<◌, ◌≤◌, Bool, true, false, List, [], ◌∷◌, ◌++◌, length, take, drop, get_or, eqb, cond, Option, Some, None, refl, sym, ap, subst, ◌∙◌, arith, inl, inr}
-use Rattle.std.specs.Prelude.{slice_get}
+use Rattle.std.specs.Prelude.{slice_get, option_and_then}
 use Rattle.std.specs.List.{AllByRecursion}
 use Rattle.std.specs.List.Sorted.{IsNonDecreasingBy}
 use Rattle.std.specs.Option.{option_or}
 use Rattle.std.proofs.lemmas.Bool.{cases_lt}
 use Rattle.omf_format.specs.File.{Segment}
-use Rattle.load_meaning.specs.Cells.{Cell, Byte, Part, segment_bytes, cell_at}
+use Rattle.load_meaning.specs.Cells.{Cell, Byte, Part, segment_bytes, cells, cell_at}
 use Rattle.load_meaning.specs.Cells as format
 use Rattle.omf_records.specs.declared.segment.SegmentView.{SegmentView}
 use Rattle.omf_records.specs.Segments.{segment_of_view}
 use Rattle.load_content.specs.declared.spots.PatchSpot.{PatchSpot}
 use Rattle.load_content.specs.declared.targets.SegmentContent.{SegmentContent}
-use Rattle.load_content.specs.Content.{IsSplit, offset_of, end_of, spread_from, spread_spot, shown_spots, last_at}
+use Rattle.load_content.specs.Content.{IsSplit, offset_of, end_of, spot_patch, spread_from, spread_spot, shown_spots, last_at}
 use Rattle.load_content.proofs.Splits.{within, get_there, in_order}
 use Rattle.load_content.proofs.SpotLists.{last_at-append, Covers, cell_in, spot_here, none_over, each_place}
-use Rattle.omf_cells.specs.Load.{ShowsContent}
-use Rattle.omf_cells.proofs.LoadShows.{cell_past, cell_part, cell_byte}
+use Rattle.omf_cells.specs.Load.{IsOutside, ShowsContent}
+use Rattle.omf_cells.proofs.LoadShows.{cell_past, cell_part, cell_byte, outside}
 use Rattle.omf_compact.specs.laws.Walk.{IsNoPart, AreNoParts, NoneBegins}
 use Rattle.omf_compact.proofs.PartWalks.{Walked, walked_over}
 
@@ -76,7 +76,7 @@ none_between low high k spots le lt none before = none_over spots k (uncovered_l
 -- ---- cells
 
 -- what spots give is no byte
-IsOfPlace : Cell → Type 0
+abbrev IsOfPlace : Cell → Type 0
 IsOfPlace (Byte b) = ⊥
 IsOfPlace (Part file segment offset shift index) = Unit {0}
 
@@ -90,11 +90,11 @@ all_joined (x ∷ xs) ys front back = (front.0, all_joined xs ys front.1 back)
 
 shown_places : (spots : List PatchSpot) → AllByRecursion (λ found. IsOfPlace found.1) (shown_spots spots)
 shown_places [] = tt
-shown_places (s ∷ spots) = all_joined (spread_spot s) (shown_spots spots) (spread_places _ s.at s.first (s.end - s.first)) (shown_places spots)
+shown_places (s ∷ spots) = all_joined (spread_spot s) (shown_spots spots) (spread_places (spot_patch s) s.at s.first (s.end - s.first)) (shown_places spots)
 
 last_place : (founds : List (ℕ × Cell)) (k : ℕ) (c : Cell) → AllByRecursion (λ found. IsOfPlace found.1) founds → last_at founds k ≡ Some c → IsOfPlace c
 last_place [] k c all is = absurd cc
-last_place (found ∷ founds) k c all is = by_rest (last_at founds k) refl is
+last_place (found ∷ founds) k c all is = by_rest (last_at founds k) refl is (last_place founds k c all.1)
   where
     one_is : (d : Cell) → Some d ≡ Some c → d ≡ c
     one_is d e = cc
@@ -103,9 +103,9 @@ last_place (found ∷ founds) k c all is = by_rest (last_at founds k) refl is
     by_here true e = subst IsOfPlace (one_is found.1 e) all.0
     by_here false e = absurd cc
 
-    by_rest : (o : Option Cell) → last_at founds k ≡ o → option_or o (cond (eqb found.0 k) (Some found.1) None) ≡ Some c → IsOfPlace c
-    by_rest None e here = by_here (eqb found.0 k) here
-    by_rest (Some d) e here = last_place founds k c all.1 (e ∙ here)
+    by_rest : (o : Option Cell) → last_at founds k ≡ o → option_or o (cond (eqb found.0 k) (Some found.1) None) ≡ Some c → (last_at founds k ≡ Some c → IsOfPlace c) → IsOfPlace c
+    by_rest None e here again = by_here (eqb found.0 k) here
+    by_rest (Some d) e here again = again (e ∙ here)
 
 -- where no part is, no spot gives one
 found_nothing : (segments : List Segment) (number k : ℕ) (v : SegmentView) (content : SegmentContent) → ShowsContent segments number v content → IsNoPart (cell_at segments number k)
@@ -113,8 +113,8 @@ found_nothing : (segments : List Segment) (number k : ℕ) (v : SegmentView) (co
 found_nothing segments number k v content is none = by_found (last_at (shown_spots content.spots.items) k) refl
   where
     clash : (c : Cell) → IsOfPlace c → IsNoPart (Some c) → ⊥
-    clash (Byte b) place no = place
-    clash (Part f s o sh i) place no = no
+    clash (Byte b) place none = place
+    clash (Part f s o sh i) place none = none
 
     by_found : (o : Option Cell) → last_at (shown_spots content.spots.items) k ≡ o → last_at (shown_spots content.spots.items) k ≡ None
     by_found None e = e
@@ -131,6 +131,13 @@ gap_passed segments number low high v content is none begins = λ k le lt. elim 
       subst IsNoPart (sym (cell_byte segments number k v content (get_or bytes k 0) is nothing there)) tt
   | inr past ↦ subst IsNoPart (sym (cell_past segments number k v is.shows past)) tt
 ]
+
+-- and a segment that isn't there has none
+pub no_gap : (segments : List Segment) (number low high : ℕ) → IsOutside segments number → AreNoParts segments number low high
+no_gap segments number low high past = λ k le lt. subst IsNoPart (sym (ap (option_and_then (λ (s : Segment). slice_get (cells s) k)) (outside segments number past))) tt
+
+pub next_alone : (segments : List Segment) (number low : ℕ) → IsNoPart (cell_at segments number low) → AreNoParts segments number low (low + 1)
+next_alone segments number low none = λ k le lt. let same : low ≡ k = omega (arith, le, lt) in subst (λ (n : ℕ). IsNoPart (cell_at segments number n)) same none
 
 -- ---- a walk
 

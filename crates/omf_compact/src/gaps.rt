@@ -61,5 +61,6 @@ pub fn after_gap(load: &LoadFile, number: u32, at: u32, end: u32) -> u32
         Some(found) => found,
         None => return end,
     };
-    next_start(&content.spots, &content.runs, at, end).max(at + 1)
+    let next = next_start(&content.spots, &content.runs, at, end);
+    if next > at { next } else { at + 1 }
 }
