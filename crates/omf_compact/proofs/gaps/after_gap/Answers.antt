@@ -1,4 +1,4 @@
-use Rattle.std.proofs.Common.{◌≡◌, List, subst, sym}
+use Rattle.std.proofs.Common.{List, subst}
 use Rattle.load_content.specs.declared.spots.PatchSpot.{PatchSpot}
 use Rattle.omf_compact.specs.laws.Walk.{NoneBegins}
 use Rattle.omf_compact.proofs.PartGaps.{gap_passed, no_gap, next_alone}

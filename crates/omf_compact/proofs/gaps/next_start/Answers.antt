@@ -1,5 +1,4 @@
-use Rattle.std.proofs.Common.{◌≡◌, ◌+◌, ◌≤◌, ℕ, List, take, drop, get_or, sym, ap, subst, arith}
-use Rattle.load_content.specs.declared.spots.PatchSpot.{PatchSpot}
+use Rattle.std.proofs.Common.{◌+◌, take, drop, get_or, sym, subst, arith}
 use Rattle.load_content.specs.Content.{AreRising, AreRuns}
 use Rattle.load_content.proofs.RunLists.{next_run, last_run}
 use Rattle.omf_compact.specs.laws.Walk.{NoneBegins}
