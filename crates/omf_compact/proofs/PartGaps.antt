@@ -12,7 +12,7 @@ use Rattle.omf_records.specs.declared.segment.SegmentView.{SegmentView}
 use Rattle.omf_records.specs.Segments.{segment_of_view}
 use Rattle.load_content.specs.declared.spots.PatchSpot.{PatchSpot}
 use Rattle.load_content.specs.declared.targets.SegmentContent.{SegmentContent}
-use Rattle.load_content.specs.Content.{IsSplit, offset_of, end_of, spot_patch, spread_from, spread_spot, shown_spots, last_at}
+use Rattle.load_content.specs.Content.{IsSplit, offset_of, spot_patch, spread_from, spread_spot, shown_spots, last_at}
 use Rattle.load_content.proofs.Splits.{within, get_there, in_order}
 use Rattle.load_content.proofs.SpotLists.{last_at-append, Covers, cell_in, spot_here, none_over, each_place}
 use Rattle.omf_cells.specs.Load.{IsOutside, ShowsContent}
