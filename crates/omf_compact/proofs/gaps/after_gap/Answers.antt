@@ -9,8 +9,8 @@ returns-in-None-clause-none c = no_gap c.args.load.now c.args.number c.args.at c
 
 pub returns-then-next-at-clause-none : goal.returns-then-next-at-clause-none
 returns-then-next-at-clause-none c =
-    gap_passed c.args.load.now c.args.number c.args.at c.next_start.result c.in-Some.found.0.now c.in-Some.found.1.now c.in-Some.ensures c.requires.none
-    (subst (λ (l : List PatchSpot). NoneBegins c.args.at c.next_start.result l) c.deref.ensures.value c.next_start.ensures.none)
+    gap_passed c.args.load.now c.args.number c.args.at c.next_start-next.result c.in-Some.found.0.now c.in-Some.found.1.now c.in-Some.ensures c.requires.none
+    (subst (λ (l : List PatchSpot). NoneBegins c.args.at c.next_start-next.result l) c.deref.ensures.value c.next_start-next.ensures.none)
 
 pub returns-else-next-at-clause-none : goal.returns-else-next-at-clause-none
 returns-else-next-at-clause-none c = next_alone c.args.load.now c.args.number c.args.at c.requires.none
