@@ -74,7 +74,7 @@ impl<'a> LoadFile<'a> {
     }
 
     /// The segment with this number, from 1, and what is kept of it beside its header.
-    fn content(&self, number: u32) -> Option<(&SegmentView<'a>, &SegmentContent<'a>)>
+    pub fn content(&self, number: u32) -> Option<(&SegmentView<'a>, &SegmentContent<'a>)>
         ensures { MatchOption result (IsOutside self.now number) (λ found. ShowsContent self.now number found.0.now found.1.now) }
     {
         if number == 0 {

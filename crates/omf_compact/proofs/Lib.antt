@@ -1,6 +1,7 @@
 pub mod KnownLaws
 pub mod Refusals
 pub mod PartWalks
+pub mod PartGaps
 pub mod JudgeLaws
 pub mod ContentLaws
 pub mod EntryLists

@@ -6,6 +6,7 @@ mod compacting;
 mod content;
 mod exports;
 mod fault;
+mod gaps;
 mod judge;
 mod laws;
 mod parting;

@@ -1,4 +1,5 @@
-//! The patches of a segment's cells, where they don't lie apart: the cells are gone over one by one.
+//! The patches of a segment's cells, where they don't lie apart: the cells that are parts are gone over one by one, and the bytes between
+//! them are passed over.
 
 ghost use Rattle.std.specs.Prelude.{◌≡◌, ◌<◌, true, false, map, Some, None, IfOk, IfSome, MatchOption};
 ghost use Rattle.std.specs.List.{AllByRecursion};
@@ -8,6 +9,7 @@ ghost use Rattle.load_writer.specs.WrittenParts.{seen};
 ghost use Rattle.omf_compact.specs.Stretches.{IsWrittenCell};
 ghost use Rattle.omf_compact.specs.laws.Walk.{placed, goes_on, with_part, IsNoPart, IsPartAt, IsParted};
 
+use crate::gaps::after_gap;
 use omf_cells::{Cell, LoadFile, Patch};
 use std::alloc::{AllocError, Global};
 
@@ -112,14 +114,16 @@ pub fn part_cells(alloc: Global, load: &LoadFile, number: u32) -> Result<Parted,
 {
     let end = load.front(number);
     let mut patches = Vec::new(alloc);
-    'cells: for at in 0..end {
+    let mut at = 0;
+    'cells: while at < end {
         match part_at(load, number, at) {
             Some(part) => {
                 if !append_part(&mut patches, &part)? {
                     return Ok(Parted::Broken(at));
                 }
+                at += 1;
             }
-            None => {}
+            None => at = after_gap(load, number, at, end),
         }
     }
     Ok(Parted::Patches(patches))

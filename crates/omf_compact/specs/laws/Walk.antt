@@ -1,7 +1,10 @@
 -- Going over the parts of cells one by one, from the start.
-use Rattle.std.specs.Prelude.{◌≡◌, ◌<◌, ℕ, zero, suc, ◌+◌, ◌==◌, ◌&&◌, Bool, false, List, [], ◌∷◌, ◌++◌, map, Option, Some, None, option_map, Result, Ok, Err, if◌then◌else◌}
+use Rattle.std.specs.Prelude.{◌≡◌, ◌<◌, ◌≤◌, ℕ, zero, suc, ◌+◌, ◌==◌, ◌&&◌, Bool, false, List, [], ◌∷◌, ◌++◌, map, Option, Some, None, option_map, Result, Ok, Err, if◌then◌else◌}
 use Rattle.std.specs.Ordering.{int_eq}
-use Rattle.load_meaning.specs.Cells.{Cell, Byte, Part}
+use Rattle.std.specs.List.{AllByRecursion}
+use Rattle.omf_format.specs.File.{Segment}
+use Rattle.load_content.specs.declared.spots.PatchSpot.{PatchSpot}
+use Rattle.load_meaning.specs.Cells.{Cell, Byte, Part, cell_at}
 use Rattle.load_meaning.specs.Cells as format
 use Rattle.omf_compact.specs.Stretches.{first_broken, stretches}
 use Rattle.load_writer.specs.WrittenParts.{seen}
@@ -22,6 +25,14 @@ abbrev pub IsNoPart : Option Cell → Type 0
 IsNoPart None = Unit {0}
 IsNoPart (Some (Byte b)) = Unit {0}
 IsNoPart (Some (Part file segment offset shift index)) = ⊥
+
+-- none is there from an offset on, up to another
+abbrev pub AreNoParts : List Segment → ℕ → ℕ → ℕ → Type 0
+AreNoParts segments number low high = (k : ℕ) → low ≤ k → k < high → IsNoPart (cell_at segments number k)
+
+-- none of the spots begins after the one offset and before the other
+abbrev pub NoneBegins : ℕ → ℕ → List PatchSpot → Type 0
+NoneBegins low high spots = AllByRecursion (λ s. low < s.at → high ≤ s.at) spots
 
 -- this part is there, one of at most four bytes
 abbrev pub IsPartAt : Single → ℕ → Option Cell → Type 0
