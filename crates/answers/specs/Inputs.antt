@@ -16,6 +16,9 @@ use Rattle.link_meaning.specs.EmitFaults.{IsFirstLinkFault, IsLinkedTo}
 use Rattle.omf_compact.specs.declared.fault.CompactCause.TheVariants as compact
 use Rattle.omf_compact.specs.declared.fault.CompactFault.{CompactFault}
 use Rattle.omf_compact.specs.Answer.{IsAnswer, IsRefused}
+use Rattle.list_meaning.specs.declared.faults.ListCause.TheVariants as list
+use Rattle.list_meaning.specs.declared.faults.ListFault.{ListFault}
+use Rattle.list_meaning.specs.Answer.{IsListing as IsSource, IsListFault}
 use Rattle.loader_machine.specs.declared.script.ScriptFault.{ScriptFault}
 use Rattle.loader_machine.specs.Commands.{Command}
 use Rattle.loader_machine.specs.Script.{IsScript, HasScriptFault}
@@ -42,6 +45,11 @@ LibrariesAreAnswered = (given : List LibraryInput) → AllByRecursion (λ file. 
 abbrev pub LoadFilesAreCompacted : Type 0
 LoadFilesAreCompacted = (file : List ℕ) → IsBytes file
     → ((out : List ℕ) × IsAnswer file out) ⊎ ((fault : CompactFault) × IsRefused fault file × (fault.cause ≢ compact.Memory))
+
+-- `list`: a file has a source, or a reason why it has none
+abbrev pub SourcesAreListed : Type 0
+SourcesAreListed = (file : List ℕ) → IsBytes file
+    → ((text : List ℕ) × IsSource file text) ⊎ ((fault : ListFault) × IsListFault file fault × (fault.cause ≢ list.Memory))
 
 -- `link`, `rtl` and `linkrt`: files have a load file, or a first fault
 abbrev pub LinksAreAnswered : Type 0

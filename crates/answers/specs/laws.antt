@@ -10,3 +10,4 @@ pub mod CycleDecisions
 pub mod LinkedLists
 pub mod LinkAnswers
 pub mod CompactAnswers
+pub mod ListAnswers

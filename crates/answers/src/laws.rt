@@ -2,7 +2,7 @@
 
 ghost use Rattle.answers.specs.Commands.{WantsAreAnswered, SlidesAreAnswered, CommandsAreAnswered};
 ghost use Rattle.answers.specs.Files.{FilesAreAnswered, LoadFilesAreAnswered, RuntimeFilesAreAnswered};
-ghost use Rattle.answers.specs.Inputs.{DumpsAreAnswered, DictionariesAreAnswered, LibrariesAreAnswered, LoadFilesAreCompacted, LinksAreAnswered, ScriptsAreAnswered};
+ghost use Rattle.answers.specs.Inputs.{DumpsAreAnswered, DictionariesAreAnswered, LibrariesAreAnswered, LoadFilesAreCompacted, SourcesAreListed, LinksAreAnswered, ScriptsAreAnswered};
 
 use lib_dict::rows_are_laid_out;
 
@@ -40,6 +40,11 @@ pub fn links_are_answered()
 {
     rows_are_laid_out();
 }
+
+/// A file has a source, or a reason why it has none, which isn't want of memory.
+pub fn sources_are_listed()
+    ensures { SourcesAreListed }
+{}
 
 /// A text is a script of commands, or has a first bad line.
 pub fn scripts_are_answered()
