@@ -33,6 +33,7 @@ abbrev pub DictionaryAnswer : List ℕ → Type 0
 DictionaryAnswer file = ((rows : List LibraryRow) × HasRows file rows) ⊎ (((at : ℕ) × IsFalseAt file at)
     ⊎ (IsNoLibrary file ⊎ ((fault : FileFault) × IsFirstFault file fault × (fault.cause ≢ files.Memory))))
 
+-- `lib`: each file has an answer as a library
 abbrev pub DictionariesAreAnswered : Type 0
 DictionariesAreAnswered = (file : List ℕ) → IsBytes file → DictionaryAnswer file
 

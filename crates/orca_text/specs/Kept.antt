@@ -19,9 +19,11 @@ kept_operand (Label name) = (Label name, false)
 kept_operand (LengthOf name) = (LengthOf name, false)
 kept_operand (CountOf name) = (CountOf name, false)
 
+-- an operand as a token, and whether its number is too large
 abbrev pub kept_value : Operand × Bool → Token × Bool
 kept_value (operand, large) = (Value operand, large)
 
+-- a token with its number, and whether that is too large
 abbrev pub kept_token : Token → Token × Bool
 kept_token (Value operand) = kept_value (kept_operand operand)
 kept_token (Before sign) = (Before sign, false)
@@ -29,6 +31,7 @@ kept_token (Between operator) = (Between operator, false)
 kept_token Opens = (Opens, false)
 kept_token Closes = (Closes, false)
 
+-- a term, with 0 for a number that is too large
 abbrev pub kept_term : expression.Term → expression.Term
 kept_term (expression.Operator code) = expression.Operator code
 kept_term expression.Location = expression.Location
@@ -36,5 +39,6 @@ kept_term (expression.Constant n) = expression.Constant (kept_number n)
 kept_term (expression.Named code name) = expression.Named code name
 kept_term (expression.Offset n) = expression.Offset n
 
+-- these terms, each so
 abbrev pub kept_terms : List expression.Term → List expression.Term
 kept_terms terms = map kept_term terms

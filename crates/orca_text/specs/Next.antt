@@ -31,6 +31,7 @@ pub data IsStuck (o : Operands) (s : State) (left : List ℕ) : Type 0 where
   NoOperand : s.expects ≡ true → operand_token_at o left ≡ None → IsStuck o s left
   NotWhole : s.expects ≡ false → Stops s left → ended (reduced 6 s.out s.waiting) ≡ None → IsStuck o s left
 
+-- what is answered of the next token: another was read, the formula ends there, or none is there
 abbrev pub IsNext : Operands → State → Bool → List ℕ → Next → List Term → List Wait → Bool → Type 0
 IsNext o old large left (Goes again following) out waiting larger = Steps o old (state out waiting again) large larger left following.now
 IsNext o old large left Ends out waiting larger = IsEnd old left out × (larger ≡ large)

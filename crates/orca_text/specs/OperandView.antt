@@ -14,11 +14,12 @@ use Rattle.orca_text.specs.declared.line.SourceLine.{SourceLine}
 use Rattle.orca_text.specs.declared.operand.Operand.{Operand}
 use Rattle.orca_text.specs.FormulaAt.{IsFormulaAt}
 
--- the terms of the first tree, and of the second
+-- the terms of the first tree
 abbrev pub first_terms : List Tree → List Term
 first_terms [] = []
 first_terms (tree ∷ trees) = terms_of tree
 
+-- the terms of the second tree, if there are two
 abbrev pub second_terms : List Tree → Option (List Term)
 second_terms [] = None
 second_terms (first ∷ []) = None
@@ -37,10 +38,11 @@ pub record IsRead (mnemonic : Option Mnemonic) (text : List ℕ) (operand : Oper
   pub good : IsGoodOperand mnemonic text meaning
   pub written : IsWritten operand meaning
 
--- a line's mnemonic, if it has one, and the text of its operand
+-- a line's mnemonic, if it has one
 abbrev pub line_mnemonic : SourceLine → Option Mnemonic
 line_mnemonic line = mnemonic_of (part line.text line.operation)
 
+-- the text of a line's operand
 abbrev pub line_operand : SourceLine → List ℕ
 line_operand line = part line.text line.operand
 
@@ -63,6 +65,7 @@ pub record IsSecond (rest : List ℕ) (terms : List Term) (large : Bool) : Type 
   pub comma : rest ≡ 0x2C ∷ following
   pub formula : IsFormulaAt Labels following terms large []
 
+-- no comma with a formula after it, up to the end, is at the start
 abbrev pub HasNoSecond : List ℕ → Type 0
 HasNoSecond rest = (following : List ℕ) (tree : Tree) → rest ≡ 0x2C ∷ following → MeansAt Labels following tree [] → ⊥
 

@@ -14,6 +14,7 @@ IsRefusedFor BadOperand number source = ⊥
 IsRefusedFor BadNumber number source = ⊥
 IsRefusedFor Memory number source = number ≡ 0
 
+-- a source is refused for this fault, and the fault names its file
 pub record IsRefused (file : ℕ) (source : List ℕ) (fault : TextFault) : Type 0 where
   pub file_is : fault.file ≡ file
   pub cause_is : IsRefusedFor fault.cause fault.line source

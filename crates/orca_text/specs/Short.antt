@@ -7,11 +7,13 @@ use Rattle.orca_meaning.specs.Formula.{operator_code, operator_level}
 use Rattle.orca_text.specs.declared.short.ShortFormula.{ShortFormula}
 use Rattle.orca_text.specs.declared.short.ShortFormula.TheVariants.{One, Two, Three}
 
+-- what a short formula means
 abbrev pub tree_of : ShortFormula → Tree
 tree_of (One n) = Leaf (Constant n)
 tree_of (Two operator a b) = Binary (operator_code operator) (Leaf (Constant a)) (Leaf (Constant b))
 tree_of (Three operator a second b c) = Binary (operator_code operator) (Leaf (Constant a)) (Binary (operator_code second) (Leaf (Constant b)) (Leaf (Constant c)))
 
+-- its tokens, in order
 abbrev pub tokens_of : ShortFormula → List Token
 tokens_of (One n) = Value (Number n) ∷ []
 tokens_of (Two operator a b) = Value (Number a) ∷ Between operator ∷ Value (Number b) ∷ []

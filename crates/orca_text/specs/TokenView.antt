@@ -13,6 +13,7 @@ use Rattle.orca_text.specs.declared.operand_tokens.OperatorToken.{OperatorToken}
 use Rattle.orca_text.specs.declared.operand_tokens.OperatorToken.TheVariants.{Between, Closes}
 use Rattle.orca_text.specs.Kept.{kept_value}
 
+-- an operand of a formula, and whether it is a number that is too large, which 0 represents
 abbrev pub operand : FormulaOperand → meaning.Operand × Bool
 operand Here = (meaning.Here, false)
 operand (Number n) = (meaning.Number n, false)
@@ -21,25 +22,28 @@ operand (Label name) = (meaning.Label name, false)
 operand (LengthOf name) = (meaning.LengthOf name, false)
 operand (CountOf name) = (meaning.CountOf name, false)
 
+-- a token where an operand is expected, and whether it is a number that is too large
 abbrev pub operand_token : OperandToken → meaning.Token × Bool
 operand_token (Value o) = kept_value (operand o)
 operand_token (Before sign) = (meaning.Before sign, false)
 operand_token Opens = (meaning.Opens, false)
 
+-- a token where an operator is expected
 abbrev pub operator_token : OperatorToken → meaning.Token
 operator_token (Between operator) = meaning.Between operator
 operator_token Closes = meaning.Closes
 
--- a number as an operand
+-- a number as an operand, none being one that is too large
 abbrev pub number_operand : Option ℕ → meaning.Operand × Bool
 number_operand (Some n) = (meaning.Number n, false)
 number_operand None = (meaning.Number 0, true)
 
--- the letter of what is asked, and the operand that it gives of a name
+-- the letter of what is asked of a name: L: or C:
 abbrev pub letter_of : Asked → ℕ
 letter_of Length = 0x4C
 letter_of Count = 0x43
 
+-- the operand that asks this of a name
 abbrev pub asked : Asked → List ℕ → meaning.Operand
 asked Length name = meaning.LengthOf name
 asked Count name = meaning.CountOf name

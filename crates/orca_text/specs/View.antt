@@ -6,9 +6,11 @@ use Rattle.orca_text.specs.declared.formula_term.FormulaTerm.{FormulaTerm}
 use Rattle.orca_text.specs.declared.formula_term.FormulaTerm.TheVariants.{Operator, Location, Constant, Named, Offset}
 use Rattle.orca_text.specs.declared.line.SourceLine.{SourceLine}
 
+-- the places of a line's fields
 abbrev pub fields : LineFields → meaning.LineFields
 fields f = record { label = f.label; operation = f.operation; operand = f.operand }
 
+-- a line with its file, its number and the places of its fields
 abbrev pub line : SourceLine → meaning.Line
 line l = record {
   file = l.file;

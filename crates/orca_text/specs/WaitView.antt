@@ -7,6 +7,7 @@ use Rattle.orca_meaning.specs.laws.Machine as machine
 use Rattle.orca_text.specs.declared.waiting.Wait.{Wait}
 use Rattle.orca_text.specs.declared.waiting.Wait.TheVariants.{Bracket, Before, Between}
 
+-- what waits for its right operand or its closing parenthesis
 abbrev pub wait : Wait → machine.Wait
 wait Bracket = machine.Bracket
 wait (Before sign) = machine.Pending 1 (sign_code sign)
