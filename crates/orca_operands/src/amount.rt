@@ -225,7 +225,7 @@ fn number_of_two(code: u8, a: u32, b: u32) -> Option<u32>
     }
 }
 
-/// The number that a formula is whose first term is this number, where each operator behind it takes the number so far and at
+/// The number that a formula is whose first term is this number, where each operator after it takes the number so far and at
 /// most one more. None says nothing.
 fn chained_number(known: KnownConstants<'_>, first: u32, others: &[FormulaTerm]) -> Option<u32>
     ensures { IfSome result (λ n. (t : expression.Term) (tree : Tree) → expression.Constant first ≡ written_term (constants known.entry) t
