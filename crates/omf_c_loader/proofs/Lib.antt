@@ -1,0 +1,3 @@
+-- Lemmas of the loader for C.
+pub mod Values
+pub mod Finding
