@@ -13,6 +13,9 @@
 #include <stddef.h>
 #include <stdint.h>
 
+/* The version of the library. */
+#define OMF_VERSION "0.9.0"
+
 #ifdef __cplusplus
 extern "C" {
 #endif
@@ -126,6 +129,45 @@ struct omf_segment_header {
     uint8_t load_name[10]; /* LOADNAME, padded with spaces */
     uint32_t name_size;  /* the bytes of SEGNAME */
     uint8_t name[256];   /* SEGNAME, with zeros after it */
+};
+
+/* KIND of a segment: the type, which is the number that OMF_TYPE leaves of it, and the attributes, each a bit. */
+enum omf_kind {
+    OMF_CODE = 0x00,
+    OMF_DATA = 0x01,
+    OMF_JUMP_TABLE = 0x02,
+    OMF_PATHNAME = 0x04,
+    OMF_LIBRARY_DICTIONARY = 0x08,
+    OMF_INITIALIZATION = 0x10,
+    OMF_DIRECT_PAGE = 0x12,
+    OMF_TYPE = 0x1F,
+    /* ORG is an address within the bank. */
+    OMF_BANK_RELATIVE = 0x0100,
+    /* It is never loaded. */
+    OMF_SKIP = 0x0200,
+    /* It is read again at each restart. */
+    OMF_RELOAD = 0x0400,
+    /* ORG names the bank in which it has to lie. */
+    OMF_ABSOLUTE_BANK = 0x0800,
+    /* It may not lie in special memory. */
+    OMF_NO_SPECIAL_MEMORY = 0x1000,
+    OMF_POSITION_INDEPENDENT = 0x2000,
+    /* Its names are seen in its own file alone. */
+    OMF_PRIVATE = 0x4000,
+    /* It is loaded when it is first called; without it the segment is static. */
+    OMF_DYNAMIC = 0x8000
+};
+
+/* A jump table: 8 zeros, an entry of 14 bytes for each target in order, and 4 zeros. An entry is the user ID, the file and the segment of
+ * the target in 2 bytes each, its offset in 4, and 4 bytes of code, to which references lead: 22 00 F0 E1, which calls the loader, or 5C
+ * and the three bytes of the address of the target. */
+enum omf_table {
+    /* Where the first entry begins. */
+    OMF_TABLE_BEGIN = 8,
+    /* The bytes of an entry. */
+    OMF_ENTRY_SIZE = 14,
+    /* Where in an entry the code begins. */
+    OMF_ENTRY_CODE = 10
 };
 
 /* Where an entry of a jump table leads: the file and the segment from 1, and the offset in it. */
