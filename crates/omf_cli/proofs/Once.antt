@@ -1,11 +1,11 @@
 -- Each end was reached by exactly its reads, where the count is below its end.
-use Rattle.std.proofs.Common.{◌≡◌, ℕ, zero, suc, ◌+◌, ◌-◌, ◌^◌, ◌≤◌, List, [], ◌∷◌, length, length-append, inl, inr, Option, Some, None, refl, ap, subst, ◌∙◌, arith}
+use Rattle.std.proofs.Common.{◌≡◌, ℕ, zero, suc, ◌+◌, ◌-◌, ◌^◌, ◌≤◌, List, ◌∷◌, length, length-append, inl, inr, Option, Some, None, refl, ap, subst, ◌∙◌, arith}
 use Rattle.omf_io.specs.Counts.{one_more, saturating_sum}
 use Rattle.omf_making.specs.declared.status.Status.{Status}
 use Rattle.omf_making.specs.declared.status.Status.TheVariants.{Done, Refused, Usage, CannotRead, CannotWrite, CannotPrint, Memory}
 use Rattle.omf_io.specs.Files.{StoreSeen}
 use Rattle.loader_agrees.specs.Agrees.{Loaded}
-use Rattle.omf_making.specs.Form.{CommandForm, Asm, Link, Dump, Run, Lib, Stress, Rtl, LinkRt, Listing, Compact}
+use Rattle.omf_making.specs.Form.{Asm, Link, Dump, Run, Lib, Stress, Rtl, LinkRt, Listing, Compact}
 use Rattle.omf_making.specs.Made.{Made}
 use Rattle.omf_io.specs.Outside.{Outside}
 use Rattle.omf_making.specs.Making.{StopsReading, IsShort, Writes, Says, MakesRun}
