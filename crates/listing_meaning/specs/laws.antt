@@ -1,0 +1,3 @@
+pub mod SeenProofs
+pub mod GivenProofs
+pub mod RowProofs
