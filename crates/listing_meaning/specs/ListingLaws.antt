@@ -1,13 +1,15 @@
 -- What a listing shows: each visited line and no other, the records of the object, and the first fault.
-use Rattle.std.proofs.Common.{◌≡◌, ℕ, List, [], ◌++◌, None, Ok, flat_map}
+use Rattle.std.proofs.Common.{◌≡◌, ℕ, List, [], ◌++◌, None, Ok, flat_map, ◌+◌, length}
+use Rattle.omf_format.specs.Record.{Record}
 use Rattle.orca_meaning.specs.Line.{Line}
 use Rattle.macro_meaning.specs.Expansion.{HasVisits}
 use Rattle.macro_meaning.specs.Visit.{MacroProgram, Move, On, Ends, Stops, first_visit}
 use Rattle.asm_meaning.specs.declared.faults.AsmFault.{AsmFault}
+use Rattle.asm_meaning.specs.Pieces.{place_after}
 use Rattle.asm_meaning.specs.State.{State}
 use Rattle.asm_meaning.specs.Statement.{IsStep}
 use Rattle.source_meaning.specs.Object.{HasLines, IsFirstFault}
-use Rattle.listing_meaning.specs.Given.{records_in, records_of_ended, given_records}
+use Rattle.listing_meaning.specs.Given.{records_in, records_of_ended, given_records, cells_from}
 use Rattle.listing_meaning.specs.Listing.{IsListingUpTo}
 use Rattle.listing_meaning.specs.Rows.{Row, IsListed}
 use Rattle.listing_meaning.specs.Seen.{SeenLine, Show}
@@ -34,6 +36,14 @@ NoneElseIsShown = (program : MacroProgram) (seen : List SeenLine) (end : Move) �
 -- a line leaves the records that were there, and behind them those that it gives
 abbrev pub StepsAddRecords : Type 0
 StepsAddRecords = (state next : State) (line : Line) → IsStep state line (Ok next) → records_in next ≡ records_in state ++ given_records state next
+
+-- the cells of records behind others are behind theirs, from the place where those end
+abbrev pub CellsFollow : Type 0
+CellsFollow = (at : ℕ) (before more : List Record) → cells_from at (before ++ more) ≡ cells_from at before ++ cells_from (place_after at before) more
+
+-- records move the place by as many cells as they give, so the offset of a row is the number of the cells before it in its segment
+abbrev pub PlacesCountCells : Type 0
+PlacesCountCells = (at : ℕ) (contents : List Record) → place_after at contents ≡ at + length (cells_from at contents)
 
 -- a source whose lines have no fault has rows
 abbrev pub EachObjectIsListed : Type 0

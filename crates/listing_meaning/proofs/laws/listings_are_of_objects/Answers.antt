@@ -1,3 +1,4 @@
+use Rattle.listing_meaning.specs.laws.CellProofs.{cells_follow, places_count_cells}
 use Rattle.listing_meaning.specs.laws.GivenProofs.{steps_add_records}
 use Rattle.listing_meaning.specs.laws.RowProofs.{each_object_is_listed, rows_give_object, fault_is_first}
 use Rattle.listing_meaning.specs.laws.SeenProofs.{all_are_shown, none_else_is_shown}
@@ -20,3 +21,9 @@ returns-clause-object c = rows_give_object
 
 pub returns-clause-fault : goal.returns-clause-fault
 returns-clause-fault c = fault_is_first
+
+pub returns-clause-cells : goal.returns-clause-cells
+returns-clause-cells c = cells_follow
+
+pub returns-clause-places : goal.returns-clause-places
+returns-clause-places c = places_count_cells
