@@ -4,6 +4,7 @@
 # make install PREFIX=..   puts the programs, manuals and all else that users get below a prefix, /usr/local if left out; DESTDIR is honoured
 # make uninstall PREFIX=.. removes that again
 # make dist    packs the sources, a release of the programs and a Debian package into build/dist/
+# make ports   builds the programs for other systems, of those whose compilers are there (docs/PORTS.md)
 # make try     runs the demo's commands on an unproved build, in a minute or two; tools/try ARGUMENTS.. runs any command so
 # make check   runs every test, stored run and example on unproved builds, in some minutes; it proves nothing
 # make test    the gate: proves everything, tries each must-fail edit, and runs every test and example
@@ -13,7 +14,7 @@
 
 PREFIX ?= /usr/local
 
-.PHONY: build demo lib install uninstall dist try check test times bench refuse
+.PHONY: build demo lib install uninstall dist ports try check test times bench refuse
 
 build:
 	tools/build
@@ -33,6 +34,9 @@ uninstall:
 
 dist:
 	tools/dist
+
+ports:
+	tools/port
 
 try:
 	tools/try

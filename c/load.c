@@ -90,22 +90,50 @@ static void print_cause(uint32_t cause) {
     printf("%.*s", (int)size, (const char *)name);
 }
 
+/* A name, as the program prints it: a byte outside $21 to $7E is shown as `?`. */
+static void print_name(const uint8_t *name, size_t size) {
+    for (size_t k = 0; k < size; k++)
+        putchar(name[k] >= 0x21 && name[k] <= 0x7E ? name[k] : '?');
+}
+
+/* A name in quotes, as `dump` prints it: a byte outside $20 to $7E, and a quote, is shown as `?`. */
+static void print_quoted(const uint8_t *name, size_t size) {
+    putchar('"');
+    for (size_t k = 0; k < size; k++)
+        putchar(name[k] >= 0x20 && name[k] <= 0x7E && name[k] != '"' ? name[k] : '?');
+    putchar('"');
+}
+
 static void print_fault(const struct omf_fault *fault) {
     print_cause(fault->cause);
-    if (fault->name_size > 0)
-        printf(" %s", (const char *)fault->name);
+    if (fault->name_size > 0) {
+        printf(" ");
+        print_name(fault->name, fault->name_size);
+    }
     if (fault->line > 0)
         printf(" file %u line %u\n", fault->file, fault->line);
     else
         printf(" file %u segment %u at %08X\n", fault->file, fault->segment, fault->at);
 }
 
-/* The banks, and the first byte in them that is free. */
-static uint8_t banks[4][65536];
-static uint32_t next = 0x020000;
+/* How many bytes a bank has, and how many banks there are. */
+#define BANK 65536u
+#define COUNT 4u
 
-static uint8_t *byte_at(uint32_t address) {
-    return &banks[address >> 16][address & 0xFFFF];
+/* The banks, and the first address in them that is free. */
+static uint8_t banks[COUNT * BANK];
+static uint32_t next = 2 * BANK;
+
+/* The address at which so many bytes that cross no bank are put: where the bank has no room for them they begin the next one. Where no
+ * bank is left the program ends, and nothing was written. */
+static uint32_t taken(uint32_t length) {
+    want(length <= BANK, "the segment is no longer than a bank");
+    if (next % BANK + length > BANK)
+        next += BANK - next % BANK;
+    want(length <= sizeof banks - next, "the segment fits the banks");
+    uint32_t at = next;
+    next += length;
+    return at;
 }
 
 /* Puts all segments of a load file one after another into the banks. */
@@ -115,28 +143,27 @@ static void load(const struct made *file) {
     want(omf_segments(file->bytes, file->size, &count, &fault) == OMF_DONE, "it is a load file");
     uint32_t *addresses = calloc(count, sizeof *addresses);
     want(addresses != NULL, "there is memory");
-    static struct omf_header header;
+    static struct omf_segment_header header;
     for (uint32_t number = 1; number <= count; number++) {
         want(omf_header(file->bytes, file->size, number, &header, &fault) == OMF_DONE, "each segment has a header");
-        want(next % 65536 + header.length <= 65536, "the segment fits the bank");
-        addresses[number - 1] = next;
-        next += header.length;
-        printf("segment %u at %06X length %08X kind %04X name \"%s\"\n", number, addresses[number - 1], header.length, header.kind,
-               (const char *)header.name);
+        addresses[number - 1] = taken(header.length);
+        printf("segment %u at %06X length %08X kind %04X name ", number, addresses[number - 1], header.length, header.kind);
+        print_quoted(header.name, header.name_size);
+        printf("\n");
     }
     for (uint32_t number = 1; number <= count; number++) {
-        uint32_t at = addresses[number - 1];
+        uint8_t *room = banks + addresses[number - 1];
         size_t size;
-        want(omf_place(file->bytes, file->size, number, addresses, count, byte_at(at), 65536 - at % 65536, &size, &fault) == OMF_DONE,
+        want(omf_place(file->bytes, file->size, number, addresses, count, room, (size_t)(banks + sizeof banks - room), &size, &fault) == OMF_DONE,
              "each segment is placed");
         printf("%u:", number);
         for (size_t k = 0; k < size; k++)
-            printf(" %02X", byte_at(at)[k]);
+            printf(" %02X", room[k]);
         printf("\n");
     }
-    want(omf_place(file->bytes, file->size, 1, addresses, count - 1, byte_at(0), 65536, &(size_t){0}, &fault) == OMF_MISUSED,
+    want(omf_place(file->bytes, file->size, 1, addresses, count - 1, banks, BANK, &(size_t){0}, &fault) == OMF_MISUSED,
          "an address is missing");
-    want(omf_place(file->bytes, file->size, count + 1, addresses, count, byte_at(0), 65536, &(size_t){0}, &fault) == OMF_MISUSED,
+    want(omf_place(file->bytes, file->size, count + 1, addresses, count, banks, BANK, &(size_t){0}, &fault) == OMF_MISUSED,
          "there is no such segment");
     free(addresses);
 }

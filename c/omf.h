@@ -91,7 +91,7 @@ struct omf_fault {
     uint32_t at;        /* the displacement in the file, in bytes */
     uint32_t line;      /* from 1, of a source or macro file */
     uint32_t name_size; /* the bytes of the name of OMF_UNRESOLVED, OMF_DUPLICATE and OMF_CIRCULAR */
-    uint8_t name[256];  /* that name, with zeros after it */
+    uint8_t name[256];  /* that name as the file has it, with zeros after it; the program prints a byte outside $21 to $7E as `?` */
 };
 
 /* The bytes of a file. */
@@ -109,7 +109,7 @@ struct omf_file {
 };
 
 /* The fields of a segment's header. Displacements are in the segment, from its start. */
-struct omf_header {
+struct omf_segment_header {
     uint32_t byte_count; /* BYTECNT, in version 1 512 times the number of blocks */
     uint32_t res_spc;    /* RESSPC */
     uint32_t length;     /* LENGTH: the bytes in memory */
@@ -141,7 +141,7 @@ struct omf_target {
 uint32_t omf_segments(const uint8_t *file, size_t file_size, uint32_t *count, struct omf_fault *fault);
 
 /* The header of the segment with a number, from 1. Misused: no segment has it. */
-uint32_t omf_header(const uint8_t *file, size_t file_size, uint32_t number, struct omf_header *header, struct omf_fault *fault);
+uint32_t omf_header(const uint8_t *file, size_t file_size, uint32_t number, struct omf_segment_header *header, struct omf_fault *fault);
 
 /* The bytes in memory of the segment with a number, from 1, where the segments lie at these addresses, one for each segment of the file:
  * LENGTH bytes, all patches done. A segment to which no place leads may have any address. Misused: another number of addresses than of

@@ -25,6 +25,7 @@ use Rattle.answers.specs.Commands.{HoldBytes, CommandsAreAnswered}
 use Rattle.answers.proofs.Replying.{decide_by, alloc_or, change_or, free_or, state_or, room_step, compact_step}
 use Rattle.answers.proofs.UserReplies.{no_refusal, ran, there, active_or, user_or, load_or, restart_or, shut_down_or, stands_in}
 use Rattle.answers.proofs.Locating.{where_or, jsl_or}
+use Rattle.answers.proofs.ReplyCauses.{step_reply}
 
 -- ---- no user, and a segment that is there
 
@@ -127,4 +128,6 @@ module _ (held : FileMap) (loader : Loaded) (state : Machine) (fits : HoldBytes 
   by_command is_first Compact is = compact_step state apart settled
 
 pub commands_are_answered : CommandsAreAnswered
-commands_are_answered held loader state fits agrees apart settled is_first command is = by_command held loader state fits agrees apart settled is_first command is
+commands_are_answered held loader state fits agrees apart settled is_first command is =
+    let step = by_command held loader state fits agrees apart settled is_first command is in
+    (step.0, step.1, step.2, step_reply RoomRule held state command step.0 step.1 step.2)

@@ -4,4 +4,5 @@ pub mod Placements
 pub mod Replying
 pub mod UserReplies
 pub mod Locating
+pub mod ReplyCauses
 pub mod CommandReplies

@@ -1,4 +1,4 @@
--- Every input of a command has an answer: what is made of it, or why nothing is.
+-- Every input of a command has an answer: what is made of it, or why nothing is, which isn't want of memory.
 use Rattle.std.specs.Prelude.{◌≢◌, ◌⊎◌, ℕ, List}
 use Rattle.std.specs.List.{AllByRecursion}
 use Rattle.omf_format.specs.declared.fault.FileCause.TheVariants as files
@@ -10,6 +10,7 @@ use Rattle.lib_dict.specs.declared.fault.LibCause.TheVariants as lib
 use Rattle.lib_dict.specs.declared.fault.LibFault.{LibFault}
 use Rattle.lib_dict.specs.Library.{LibraryInput, LibraryRow, IsLibraryOf, HasRows, IsNoLibrary, IsFalseAt}
 use Rattle.lib_dict.specs.Made.{IsLibRefused}
+use Rattle.link_meaning.specs.declared.fault.LinkCause.TheVariants as link
 use Rattle.link_meaning.specs.declared.fault.LinkFault.{LinkFault}
 use Rattle.link_meaning.specs.LinkFaults.{LinkInput, HasBytes}
 use Rattle.link_meaning.specs.EmitFaults.{IsFirstLinkFault, IsLinkedTo}
@@ -19,6 +20,7 @@ use Rattle.omf_compact.specs.Answer.{IsAnswer, IsRefused}
 use Rattle.list_meaning.specs.declared.faults.ListCause.TheVariants as list
 use Rattle.list_meaning.specs.declared.faults.ListFault.{ListFault}
 use Rattle.list_meaning.specs.Answer.{IsListing as IsSource, IsListFault}
+use Rattle.loader_machine.specs.declared.script.ScriptCause.TheVariants as script
 use Rattle.loader_machine.specs.declared.script.ScriptFault.{ScriptFault}
 use Rattle.loader_machine.specs.Commands.{Command}
 use Rattle.loader_machine.specs.Script.{IsScript, HasScriptFault}
@@ -54,8 +56,10 @@ SourcesAreListed = (file : List ℕ) → IsBytes file
 
 -- `link`, `rtl` and `linkrt`: files have a load file, or a first fault
 abbrev pub LinksAreAnswered : Type 0
-LinksAreAnswered = (given : LinkInput) → HasBytes given → ((output : List ℕ) × IsLinkedTo given output) ⊎ ((fault : LinkFault) × IsFirstLinkFault given fault)
+LinksAreAnswered = (given : LinkInput) → HasBytes given
+    → ((output : List ℕ) × IsLinkedTo given output) ⊎ ((fault : LinkFault) × IsFirstLinkFault given fault × (fault.cause ≢ link.Memory))
 
 -- `run`: a text is a script of commands, or has a first bad line
 abbrev pub ScriptsAreAnswered : Type 0
-ScriptsAreAnswered = (text : List ℕ) → ((commands : List Command) × IsScript text commands) ⊎ ((fault : ScriptFault) × HasScriptFault text fault)
+ScriptsAreAnswered = (text : List ℕ)
+    → ((commands : List Command) × IsScript text commands) ⊎ ((fault : ScriptFault) × HasScriptFault text fault × (fault.cause ≢ script.Memory))

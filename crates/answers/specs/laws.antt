@@ -2,6 +2,9 @@ pub mod Walks
 pub mod Options
 pub mod FileAnswers
 pub mod LoadCauses
+pub mod FirstCauses
+pub mod LinkCauses
+pub mod ScriptCauses
 pub mod LoadAnswers
 pub mod ScriptAnswers
 pub mod LibraryAnswers

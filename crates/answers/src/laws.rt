@@ -34,7 +34,7 @@ pub fn load_files_are_compacted()
     ensures { LoadFilesAreCompacted }
 {}
 
-/// Files have a load file, or a first fault of a phase.
+/// Files have a load file, or a first fault of a phase, which isn't want of memory.
 pub fn links_are_answered()
     ensures { LinksAreAnswered }
 {
@@ -46,7 +46,7 @@ pub fn sources_are_listed()
     ensures { SourcesAreListed }
 {}
 
-/// A text is a script of commands, or has a first bad line.
+/// A text is a script of commands, or has a first bad line, whose cause isn't want of memory.
 pub fn scripts_are_answered()
     ensures { ScriptsAreAnswered }
 {}
@@ -57,7 +57,7 @@ pub fn wants_are_answered()
     ensures slides { SlidesAreAnswered }
 {}
 
-/// In a state with which a loader agrees each command of a script has a reply, and leads to a state.
+/// In a state with which a loader agrees each command of a script has a reply, which isn't want of memory, and leads to a state.
 pub fn commands_are_answered()
     ensures { CommandsAreAnswered }
 {}

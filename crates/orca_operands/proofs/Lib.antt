@@ -7,7 +7,7 @@ pub mod NamesListed
 pub mod Quoted
 pub mod Values
 pub mod Written
-pub mod Single
+pub mod Chains
 pub mod Ends
 pub mod Instructed
 pub mod Modes

@@ -1,5 +1,6 @@
 -- What is written for a formula is its expression.
 use Rattle.std.proofs.Common.{◌≡◌, ℕ, ◌≤◌, Bool, true, false, cond, eqb, List, [], ◌∷◌, ◌++◌, Option, Some, None, Ok, Err, refl, sym, ap, subst, ◌∙◌}
+use Rattle.std.specs.Prelude.{◌&&◌}
 use Rattle.std.proofs.lemmas.Bool.{and_parts}
 use Rattle.std.proofs.lemmas.List.{map-append}
 use Rattle.omf_format.specs.Expression.{Term, Operator, Location, Constant, Named, Offset, Tree, Leaf, Unary, Binary, IsTree, IsTerm, AreTerms, terms_of, terms_text, depth, Spells}
@@ -13,6 +14,7 @@ use Rattle.asm_meaning.specs.Constant as meaning
 use Rattle.asm_meaning.specs.Constant.{Constants, with_values, known_value, amount}
 use Rattle.asm_meaning.specs.laws.Steps.{number_or, amount_by}
 use Rattle.orca_operands.specs.AmountView.{written_term, written_terms, with_terms, all_written, is_number_term, are_numbers, worth_of_value, no_environment, placed_by, IsFormulaOf, AmountBytes, Number, Text, kept_answer}
+use Rattle.orca_operands.proofs.Amounts.{terms_put}
 use Rattle.orca_operands.proofs.Values.{numbers_append, written_append, one_written, worth_is_value, worth_is_open}
 
 -- ---- the terms
@@ -200,3 +202,27 @@ open_is constants back terms out new tree text same is w = ap text_answer (same 
 -- a text that began empty
 pub from_empty : (old new text : List ℕ) → old ≡ [] → new ≡ old ++ text → new ≡ [] ++ text
 from_empty old new text none is = is ∙ ap (λ (l : List ℕ). l ++ text) none
+
+-- ---- the first term apart
+
+-- it is put, and then the others are
+pub first_put : (constants : Constants) (back : ℕ) (first of : Term) (others : List Term) (empty one two : List ℕ) → empty ≡ [] → of ≡ written_term constants first → one ≡ empty ++ terms_text 0 (written_terms back of)
+    → two ≡ one ++ terms_text 0 (all_written constants back others) → two ≡ [] ++ terms_text 0 (all_written constants back (first ∷ others))
+first_put constants back first of others empty one two none is put more =
+    more ∙ terms_put constants back [] one first others _ refl (from_empty empty one _ none put ∙ ap (λ (t : Term). [] ++ terms_text 0 (written_terms back t)) is)
+
+-- all are numbers where it and the others are
+pub first_number : (constants : Constants) (first of : Term) (others : List Term) (number all : Bool) → of ≡ written_term constants first → number ≡ is_number_term of → all ≡ are_numbers constants others → are_numbers constants (first ∷ others) ≡ (number && all)
+first_number constants first of others number all is one rest =
+    ap (λ (t : Term). is_number_term t && are_numbers constants others) (sym is) ∙ ap (λ (b : Bool). b && are_numbers constants others) (sym one) ∙ ap (λ (b : Bool). number && b) (sym rest)
+
+pub others_open : (number all : Bool) → all ≡ false → (number && all) ≡ false
+others_open true all none = none
+others_open false all none = refl
+
+-- what the bytes are worth is what the formula is worth
+pub worth_apart : (constants : Constants) (back : ℕ) (first of : Term) (others : List Term) (out : List ℕ) (number all : Bool) (w : meaning.KnownValue) (tree : Tree) → out ≡ [] ++ terms_text 0 (all_written constants back (first ∷ others))
+    → of ≡ written_term constants first → number ≡ is_number_term of → all ≡ are_numbers constants others → number ≡ true → all ≡ true → IsTerm 0 of → AreTerms 0 (with_terms constants others)
+    → ((t : Tree) → Spells 0 (out ++ 0x00 ∷ []) t → w ≡ worth_of_value (value no_environment 0 0 t)) → IsFormulaOf (first ∷ others) tree → w ≡ known_value constants tree
+worth_apart constants back first of others out number all w tree text is one rest one_true rest_true fine others_fine value_is formula =
+    worth_there constants back (first ∷ others) out w tree text (first_number constants first of others number all is one rest ∙ ap (λ (b : Bool). b && all) one_true ∙ rest_true) (subst (IsTerm 0) is fine, others_fine) value_is formula

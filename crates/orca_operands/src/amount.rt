@@ -1,10 +1,13 @@
 //! What a formula amounts to: a number, or the expression that is written (ORCA/M reference manual, "Expressions").
 
 ghost use Rattle.std.specs.Prelude.{◌≡◌, ◌++◌, ◌∷◌, [], map, Ok, IfOk, IfSome, OnOk};
-ghost use Rattle.omf_format.specs.Expression.{AreTerms, IsTerm, term_text, terms_text, Tree, Spells};
+ghost use Rattle.omf_format.specs.Expression.{AreTerms, IsTerm, operand_count, term_text, terms_text, Tree, Spells};
+ghost use Rattle.omf_format.specs.Expression as expression;
 ghost use Rattle.omf_format.specs.Value.{value};
 ghost use Rattle.omf_expr.specs.View.{view};
-ghost use Rattle.asm_meaning.specs.Constant.{amount};
+ghost use Rattle.asm_meaning.specs.Constant as meaning;
+ghost use Rattle.asm_meaning.specs.Constant.{amount, known_value, worth_of_two};
+ghost use Rattle.asm_meaning.specs.laws.Steps.{worth_of_one};
 ghost use Rattle.orca_operands.specs.AmountView.{with_terms, IsFormulaOf, kept_view, amount_view, kept_answer, less_location, written_term, written_terms, all_written, is_number_term, are_numbers, worth_of_value, no_environment, worth_view};
 ghost use Rattle.orca_operands.specs.NamesView.{constants};
 ghost use Rattle.orca_text.specs.View.{term};
@@ -13,7 +16,7 @@ ghost use Rattle.orca_operands.specs.NumberView.{IsTerms, HasAmount, HasNumber};
 
 use crate::names::KnownConstants;
 use asm_meaning::AsmCause;
-use omf_expr::{Env, Expr, Term, Value, ValueFault, evaluate, put_term};
+use omf_expr::{Env, Expr, Term, Value, ValueFault, apply_one, apply_two, evaluate, put_term};
 use orca_text::{Formula, FormulaTerm, LinePart, Operands, formula_at, is_too_deep};
 use std::alloc::{AllocError, Global};
 
@@ -193,28 +196,94 @@ fn value_after(out: &mut Vec<u8>) -> Result<KnownValue, AllocError>
     Ok(worth)
 }
 
-/// What a formula of one term amounts to, unless the term is an operator.
-#[tactic(auto, using(crate::proofs::Single::number_alone, crate::proofs::Single::open_alone))]
+/// The number that an operator of one number makes of it.
 #[inline(always)]
-fn amount_of_one(
+fn number_of_one(code: u8, a: u32) -> Option<u32>
+    ensures { IfSome result (λ n. meaning.Number n ≡ worth_of_one code (meaning.Number a)) }
+{
+    match apply_one(code, Value::Fixed(a)) {
+        Ok(Value::Fixed(n)) => Some(n),
+        Ok(Value::At { .. }) => None,
+        Err(_) => None,
+    }
+}
+
+/// The number that an operator of two numbers makes of them. None says nothing.
+#[tactic(auto, unfolding(omf_format::specs::Value::apply_two))]
+#[inline(always)]
+fn number_of_two(code: u8, a: u32, b: u32) -> Option<u32>
+    ensures two { IfSome result (λ n. operand_count code ≡ 2) }
+    ensures value { IfSome result (λ n. meaning.Number n ≡ worth_of_two code (meaning.Number a) (meaning.Number b)) }
+{
+    if code == 0x06 || code == 0x0B || code == 0x15 {
+        return None;
+    }
+    match apply_two(code, Value::Fixed(a), Value::Fixed(b)) {
+        Ok(Value::Fixed(n)) => Some(n),
+        Ok(Value::At { .. }) => None,
+        Err(_) => None,
+    }
+}
+
+/// The number that a formula is whose first term is this number, where each operator after it takes the number so far and at
+/// most one more. None says nothing.
+fn chained_number(known: KnownConstants<'_>, first: u32, others: &[FormulaTerm]) -> Option<u32>
+    ensures { IfSome result (λ n. (t : expression.Term) (tree : Tree) → expression.Constant first ≡ written_term (constants known.entry) t
+        → IsFormulaOf (t ∷ map term others.now) tree → meaning.Number n ≡ known_value (constants known.entry) tree) }
+{
+    let mut number = first;
+    let mut left = others;
+    'left: loop {
+        match left {
+            [] => return Some(number),
+            [FormulaTerm::Operator(code), rest @ ..] => {
+                let Some(n) = number_of_one(*code, number) else {
+                    return None;
+                };
+                number = n;
+                left = rest;
+            }
+            [right, FormulaTerm::Operator(code), rest @ ..] => {
+                let Term::Constant(b) = with_value(known, right) else {
+                    return None;
+                };
+                let Some(n) = number_of_two(*code, number, b) else {
+                    return None;
+                };
+                number = n;
+                left = rest;
+            }
+            _ => return None,
+        }
+    }
+}
+
+/// What a formula amounts to whose first term is written as this one, by the bytes of its expression.
+#[inline(always)]
+fn long_amount(
     alloc: Global,
     known: KnownConstants<'_>,
     back: u8,
-    only: &FormulaTerm,
-) -> Result<Option<Amount>, AllocError>
-    requires { IsTerm 0 (term only.now) }
-    ensures { IfOk result (λ found. IfSome found (λ a. (tree : Tree) → IsFormulaOf (term only.now ∷ []) tree → Ok (kept_view a) ≡ kept_answer back (amount (constants known.entry) tree))) }
+    first: Term<'_>,
+    others: &[FormulaTerm],
+) -> Result<Result<Amount, AsmCause>, AllocError>
+    requires first { IsTerm 0 (view first) }
+    requires others { AreTerms 0 (map term others.now) }
+    ensures { IfOk result (λ answer. (t : expression.Term) (tree : Tree) → view first.entry ≡ written_term (constants known.entry) t
+        → IsFormulaOf (t ∷ map term others.now) tree → amount_view answer ≡ kept_answer back (amount (constants known.entry) tree)) }
 {
-    let of = with_value(known, only);
-    if let Term::Constant(n) = of {
-        return Ok(Some(Amount::Known(n)));
-    }
-    if is_number_term(of) {
-        return Ok(None);
-    }
     let mut out = Vec::new(alloc);
-    put_placed(&mut out, back, of)?;
-    Ok(Some(Amount::Written(out)))
+    put_placed(&mut out, back, first)?;
+    let all = put_terms(&mut out, known, back, others)?;
+    if !all || !is_number_term(first) {
+        return Ok(Ok(Amount::Written(out)));
+    }
+    let worth = value_after(&mut out)?;
+    match worth {
+        KnownValue::Number(n) => Ok(Ok(Amount::Known(n))),
+        KnownValue::Divided => Ok(Err(AsmCause::DivideByZero)),
+        KnownValue::Open => Ok(Ok(Amount::Written(out))),
+    }
 }
 
 /// What a formula amounts to where these constants are known. In an instruction the location counter is written less a
@@ -228,22 +297,17 @@ pub(crate) fn amount_of(
     requires { AreTerms 0 (map term terms.now) }
     ensures { IfOk result (λ answer. (tree : Tree) → IsFormulaOf (map term terms.now) tree → amount_view answer ≡ kept_answer back (amount (constants known.entry) tree)) }
 {
-    if let [only] = terms {
-        if let Some(amount) = amount_of_one(alloc, known, back, only)? {
-            return Ok(Ok(amount));
+    let Some((first, others)) = terms.split_first() else {
+        // No formula is empty.
+        return Ok(Ok(Amount::Known(0)));
+    };
+    let of = with_value(known, first);
+    if let Term::Constant(n) = of {
+        if let Some(number) = chained_number(known, n, others) {
+            return Ok(Ok(Amount::Known(number)));
         }
     }
-    let mut out = Vec::new(alloc);
-    let all = put_terms(&mut out, known, back, terms)?;
-    if !all {
-        return Ok(Ok(Amount::Written(out)));
-    }
-    let worth = value_after(&mut out)?;
-    match worth {
-        KnownValue::Number(n) => Ok(Ok(Amount::Known(n))),
-        KnownValue::Divided => Ok(Err(AsmCause::DivideByZero)),
-        KnownValue::Open => Ok(Ok(Amount::Written(out))),
-    }
+    long_amount(alloc, known, back, of, others)
 }
 
 /// The formula that a text is, unless it is too deep or has a number that is too large.

@@ -1,5 +1,5 @@
--- Files have a load file, or a first fault of a phase.
-use Rattle.std.proofs.Common.{◌≡◌, ◌⊎◌, inl, inr, ℕ, ◌+◌, ◌<◌, Bool, true, false, ltb, ltb-true, ltb-false, eqb, List, [], ◌∷◌, ◌++◌, length, map, Option, Some, None, Result, Ok, Err, refl, sym, ap, subst, ◌∙◌, append_assoc, arith}
+-- Files have a load file, or a first fault of a phase, which isn't want of memory.
+use Rattle.std.proofs.Common.{◌≡◌, ◌≢◌, ◌⊎◌, inl, inr, ℕ, ◌+◌, ◌<◌, Bool, true, false, ltb, ltb-true, ltb-false, eqb, List, [], ◌∷◌, ◌++◌, length, map, Option, Some, None, Result, Ok, Err, refl, sym, ap, subst, ◌∙◌, append_assoc, arith}
 use Rattle.std.proofs.lemmas.List.{append-nil}
 use Rattle.std.proofs.lemmas.Bool.{eqb-true, eq-eqb}
 use Rattle.std.specs.Prelude.{◌&&◌, ◌||◌, not, nat_lt, ◌==◌, slice_get}
@@ -14,7 +14,7 @@ use Rattle.load_meaning.specs.laws.LoadableLaws.{loadable_same, loadable_sound}
 use Rattle.object_meaning.specs.Sizes.{most_bytes}
 use Rattle.lib_dict.specs.DictionaryLayout.{RowsAreLaidOut}
 use Rattle.link_meaning.specs.declared.fault.LinkCause.{LinkCause}
-use Rattle.link_meaning.specs.declared.fault.LinkCause.TheVariants.{BadLibrary, Empty, OrgConflict, TooManySegments, SegmentTooLong, NotDynamic, Circular, FileTooLong}
+use Rattle.link_meaning.specs.declared.fault.LinkCause.TheVariants.{BadLibrary, Empty, OrgConflict, TooManySegments, SegmentTooLong, NotDynamic, Circular, FileTooLong, Memory}
 use Rattle.link_meaning.specs.declared.fault.LinkFault.{LinkFault}
 use Rattle.link_meaning.specs.declared.form.LinkForm.TheVariants.{Program, Runtime as LibraryForm}
 use Rattle.link_meaning.specs.First.{IsFirst, HasNone, IsIn}
@@ -38,6 +38,7 @@ use Rattle.answers.specs.laws.FileAnswers.{FileAnswer, files_are_answered}
 use Rattle.answers.specs.laws.LoadAnswers.{RuntimeAnswer, runtime_files_are_answered}
 use Rattle.answers.specs.laws.Decisions.{is_it, HasOrNot, FirstOrNone, first_or_none, no_first, is_in_middle}
 use Rattle.answers.specs.laws.CycleDecisions.{circular_or_not}
+use Rattle.answers.specs.laws.LinkCauses.{first_link_cause}
 use Rattle.answers.specs.laws.LinkedLists.{linked_list}
 
 abbrev some : {A : Type 0} → A → Option A
@@ -343,15 +344,21 @@ emit_answer given list bytes resolved = by_cycles (first_or_none (HasCycleFault 
         (none_more (HasEmitFault list) [] Cycles (none_yet (HasEmitFault list)) (λ fault has. no_first (HasCycleFault list) (equates list) fault none has))
         (first_or_none (HasValueFault list table.0) (items list) (λ before i rest e. value_fault list table.0 before i))
 
+abbrev LinkAnswer : LinkInput → Type 0
+LinkAnswer given = ((output : List ℕ) × IsLinkedTo given output) ⊎ ((fault : LinkFault) × IsFirstLinkFault given fault × (fault.cause ≢ Memory))
+
 -- files have a load file or a first fault
 pub links_are_answered : RowsAreLaidOut → LinksAreAnswered
 links_are_answered laid given bytes = by_resolving (resolve_answer laid given bytes)
   where
-    by_emitting : (list : List Member) → IsResolved given list → EmitAnswer list → ((output : List ℕ) × IsLinkedTo given output) ⊎ ((fault : LinkFault) × IsFirstLinkFault given fault)
+    at_fault : (fault : LinkFault) → IsFirstLinkFault given fault → LinkAnswer given
+    at_fault fault first = inr (fault, first, first_link_cause given fault first)
+
+    by_emitting : (list : List Member) → IsResolved given list → EmitAnswer list → LinkAnswer given
     by_emitting list resolved (inl emitted) =
         inl (written_file list emitted.0, record { list = list; table = emitted.0; linkable = record { resolved = resolved; emitted = emitted.1 }; is_written = refl })
-    by_emitting list resolved (inr fault) = inr (fault.0, OfEmitting list resolved fault.1)
+    by_emitting list resolved (inr fault) = at_fault fault.0 (OfEmitting list resolved fault.1)
 
-    by_resolving : ResolveAnswer given → ((output : List ℕ) × IsLinkedTo given output) ⊎ ((fault : LinkFault) × IsFirstLinkFault given fault)
+    by_resolving : ResolveAnswer given → LinkAnswer given
     by_resolving (inl resolved) = by_emitting resolved.0 resolved.1 (emit_answer given resolved.0 bytes resolved.1)
-    by_resolving (inr fault) = inr (fault.0, OfResolving fault.1)
+    by_resolving (inr fault) = at_fault fault.0 (OfResolving fault.1)

@@ -1,17 +1,18 @@
 -- A text is a script, or has a first bad line.
-use Rattle.std.proofs.Common.{◌≡◌, ◌⊎◌, inl, inr, ℕ, ◌+◌, ◌<◌, Bool, true, false, ltb, ltb-true, ltb-false, List, [], ◌∷◌, ◌++◌, length, Result, Ok, Err, refl, sym, subst, ◌∙◌, append_assoc, arith}
+use Rattle.std.proofs.Common.{◌≡◌, ◌≢◌, ◌⊎◌, inl, inr, ℕ, ◌+◌, ◌<◌, Bool, true, false, ltb, ltb-true, ltb-false, List, [], ◌∷◌, ◌++◌, length, Result, Ok, Err, refl, sym, subst, ◌∙◌, append_assoc, arith}
 use Rattle.std.proofs.lemmas.List.{append-nil}
 use Rattle.omf_format.specs.Lines.{lines_of}
 use Rattle.loader_machine.specs.declared.script.ScriptCause.{ScriptCause}
-use Rattle.loader_machine.specs.declared.script.ScriptCause.TheVariants.{TooManyLines}
+use Rattle.loader_machine.specs.declared.script.ScriptCause.TheVariants.{TooManyLines, Memory}
 use Rattle.loader_machine.specs.declared.script.ScriptFault.{ScriptFault}
 use Rattle.loader_machine.specs.Commands.{Command}
 use Rattle.loader_machine.specs.Script.{most_lines, is_skipped, line_command, AreGood, IsScript, IsBad, OneTooMany, NoCommand, is_start, HasScriptFault}
 use Rattle.loader_machine.specs.laws.ScriptLaws.{AreGood-push, AreGood-push_skipped}
 use Rattle.answers.specs.Inputs.{ScriptsAreAnswered}
+use Rattle.answers.specs.laws.ScriptCauses.{script_cause}
 
 abbrev ScriptAnswer : List ℕ → Type 0
-ScriptAnswer text = ((commands : List Command) × IsScript text commands) ⊎ ((fault : ScriptFault) × HasScriptFault text fault)
+ScriptAnswer text = ((commands : List Command) × IsScript text commands) ⊎ ((fault : ScriptFault) × HasScriptFault text fault × (fault.cause ≢ Memory))
 
 answer_from : (text : List ℕ) (before rest : List (List ℕ)) (commands : List Command) → lines_of text ≡ before ++ rest → AreGood before commands → ScriptAnswer text
 answer_from text before [] commands lines good = inl (commands, subst (λ (l : List (List ℕ)). AreGood l commands) (sym (lines ∙ append-nil before)) good)
@@ -19,10 +20,11 @@ answer_from text before (line ∷ rest) commands lines good =
     by_count (λ (more : List Command). answer_from text (before ++ line ∷ []) rest more (lines ∙ sym (append_assoc before (line ∷ []) rest))) (ltb (length before) most_lines) refl
   where
     at_fault : (cause : ScriptCause) → IsBad (length before) (is_start commands) line cause → ScriptAnswer text
-    at_fault cause bad = inr (
-      record { line = length before + 1; cause = cause },
-      record { before = before; line = line; following = rest; lines = lines; number_is = refl; commands = commands; good = good; bad = bad },
-    )
+    at_fault cause bad =
+        let fault : ScriptFault = record { line = length before + 1; cause = cause } in
+        let has : HasScriptFault text fault =
+        record { before = before; line = line; following = rest; lines = lines; number_is = refl; commands = commands; good = good; bad = bad } in
+        inr (fault, has, script_cause text fault has)
 
     by_command : ((more : List Command) → AreGood (before ++ line ∷ []) more → ScriptAnswer text) → length before < most_lines → is_skipped line ≡ false
         → (found : Result Command ScriptCause) → line_command (is_start commands) line ≡ found → ScriptAnswer text

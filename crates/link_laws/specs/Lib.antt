@@ -1,0 +1,4 @@
+pub mod ReadBack
+pub mod Formulas
+pub mod Parts
+pub mod laws

@@ -1,0 +1,4 @@
+pub mod PartLaws
+pub mod FormulaLaws
+pub mod WrittenNames
+pub mod NameLaws
