@@ -8,9 +8,9 @@ use Rattle.asm_meaning.specs.declared.faults.AsmFault.{AsmFault}
 use Rattle.asm_meaning.specs.Pieces.{place_after}
 use Rattle.asm_meaning.specs.State.{State}
 use Rattle.asm_meaning.specs.Statement.{IsStep}
-use Rattle.source_meaning.specs.Object.{HasLines, IsFirstFault}
+use Rattle.source_meaning.specs.Object.{HasLines, IsObject, IsFirstFault}
 use Rattle.listing_meaning.specs.Given.{records_in, records_of_ended, given_records, cells_from}
-use Rattle.listing_meaning.specs.Listing.{IsListingUpTo}
+use Rattle.listing_meaning.specs.Listing.{IsListing, IsListingUpTo}
 use Rattle.listing_meaning.specs.Rows.{Row, IsListed}
 use Rattle.listing_meaning.specs.Seen.{SeenLine, Show}
 
@@ -45,9 +45,9 @@ CellsFollow = (at : ℕ) (before more : List Record) → cells_from at (before +
 abbrev pub PlacesCountCells : Type 0
 PlacesCountCells = (at : ℕ) (contents : List Record) → place_after at contents ≡ at + length (cells_from at contents)
 
--- a source whose lines have no fault has rows
+-- a source that is assembled has a listing
 abbrev pub EachObjectIsListed : Type 0
-EachObjectIsListed = (source : List ℕ) (macros : List (List ℕ)) (last : State) → HasLines source macros last → (rows : List Row) × IsListed source macros rows last
+EachObjectIsListed = (source : List ℕ) (macros : List (List ℕ)) (object : List ℕ) → IsObject source macros object → (text : List ℕ) × IsListing source macros text
 
 -- where all segments have ended, the records of the rows are those of the segments that the lines leave
 abbrev pub RowsGiveObject : Type 0

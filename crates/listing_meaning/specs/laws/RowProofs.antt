@@ -1,18 +1,18 @@
 -- The rows of a source are those of its object.
-use Rattle.std.proofs.Common.{◌≡◌, ℕ, List, [], ◌∷◌, ◌++◌, Option, refl, sym, ap, subst, ◌∙◌, append_assoc, append-nil}
+use Rattle.std.proofs.Common.{◌≡◌, ◌≤◌, ℕ, List, [], ◌∷◌, ◌++◌, length, Option, refl, sym, ap, subst, ◌∙◌, append_assoc, append-nil}
 use Rattle.std.specs.List.{flat_map}
 use Rattle.std.proofs.lemmas.Grind.{flat_map-append}
 use Rattle.omf_format.specs.Record.{Record}
 use Rattle.orca_meaning.specs.Line.{Line}
 use Rattle.macro_meaning.specs.Expansion as expansion
-use Rattle.macro_meaning.specs.Expansion.{IsExpanded, AreGoodFiles, HasVisits, program_of, fault_at}
+use Rattle.macro_meaning.specs.Expansion.{IsExpanded, AreGoodFiles, program_of, fault_at}
 use Rattle.macro_meaning.specs.Visit.{Ends, Stops, first_visit}
-use Rattle.asm_meaning.specs.Object.{AreSteps}
+use Rattle.asm_meaning.specs.Object.{AreSteps, most_bytes}
 use Rattle.asm_meaning.specs.State.{StartedSegment, State, start}
 use Rattle.source_meaning.specs.Object as sources
-use Rattle.source_meaning.specs.Object.{HasLines, HasBadLine, IsFirstFault, cause_of}
+use Rattle.source_meaning.specs.Object.{HasLines, HasBadLine}
 use Rattle.listing_meaning.specs.Given.{open_records, records_of_ended, records_in, given_records}
-use Rattle.listing_meaning.specs.Listing.{HasBadRow, InText, InDefinition, InVisit, InLine, InSegment, InLength}
+use Rattle.listing_meaning.specs.Listing.{row_text, segment_line, HasBadRow, InText, InDefinition, InVisit, InLine, InSegment, InLength}
 use Rattle.listing_meaning.specs.ListingLaws.{given_by_all, EachObjectIsListed, RowsGiveObject, FaultIsFirst}
 use Rattle.listing_meaning.specs.Rows.{Row, row_of, AreRows, IsListed}
 use Rattle.listing_meaning.specs.Seen.{SeenLine, Show}
@@ -87,10 +87,20 @@ module _ (source : List ℕ) (macros : List (List ℕ)) where
           ∙ ap (λ (lines : List Line). given_by_all has.before ++ (lines ++ given_by_all has.following)) has.gives
 
 pub each_object_is_listed : EachObjectIsListed
-each_object_is_listed source macros last has =
+each_object_is_listed source macros object is =
+    let has = is.has in
     let shown = all_are_shown (program_of source macros) has.lines Ends has.expanded.visited tt in
-    let rows = steps_rows start last shown.0 (subst (λ (lines : List Line). AreSteps start lines last) (sym shown.2) has.steps) in
-    (rows.0, record { good = has.expanded.good; seen = shown.0; show = shown.1; are = rows.1 })
+    let rows = steps_rows start is.last shown.0 (subst (λ (lines : List Line). AreSteps start lines is.last) (sym shown.2) has.steps) in (
+      flat_map row_text rows.0 ++ flat_map segment_line is.last.ended,
+      record {
+        rows = rows.0;
+        last = is.last;
+        listed = record { good = has.expanded.good; seen = shown.0; show = shown.1; are = rows.1 };
+        ended = is.ended;
+        fits = subst (λ (text : List ℕ). length text ≤ most_bytes) is.text is.fits;
+        is = refl;
+      },
+    )
 
 pub rows_give_object : RowsGiveObject
 rows_give_object source macros rows last listed none =
