@@ -36,7 +36,7 @@ pub record Headline : Type 0 where
   -- a command of a script has one reply and one next state at most
   pub answered : StepsOnce
   pub listed : OneListing
-  -- every input has an answer, which isn't want of memory: a source not none of the two, and constructively all others
+  -- every input has an answer, which isn't Memory: a source not none of the two, and constructively all others
   pub has_object : NoneUnanswered
   pub has_link : LinksAreAnswered
   pub has_library : LibrariesAreAnswered

@@ -34,7 +34,7 @@ pub fn linked_files_begin()
 
 /// The headline: a source has one object at most, which is a file; files have one load file or one first fault at most; the load file
 /// represents the linked cells, and its load begins a program; a command has one reply at most; a file has one listing at most. And each
-/// of these inputs has an answer, which isn't want of memory.
+/// of these inputs has an answer, which isn't Memory.
 pub fn headline()
     ensures { Headline }
 {
