@@ -34,11 +34,21 @@ _omf_word() {
     lib:1 | link:1 | rtl:1 | linkrt:1 | compact:2) _omf_files "$3" '*' ;;
     lib:* | link:* | rtl:*) _omf_files "$3" '*.o' '*.lib' '*lib*' ;;
     linkrt:*) _omf_files "$3" '*' ;;
-    omf_map:*) _omf_files "$3" '*.o' '*.lib' '*lib*' ;;
+    omf_map:1) mapfile -t COMPREPLY < <(compgen -W "link rtl linkrt" -- "$3") ;;
+    omf_map:2) if [ "$(_omf_mapped)" = linkrt ]; then _omf_word linkrt 2 "$3"; else _omf_word link 2 "$3"; fi ;;
+    omf_map:*) _omf_word "$(_omf_mapped)" "$2" "$3" ;;
     omf_expand:1) _omf_files "$3" '*.s' '*.asm' ;;
     omf_expand:*) _omf_files "$3" '*macros*' '*.mac' ;;
     stress:* | dump:* | compact:* | run:* | list:*) COMPREPLY=() ;;
     esac
+}
+
+# The command whose link omf_map maps: it takes its arguments but for the output.
+_omf_mapped() {
+    local place
+    for place in "${!COMP_WORDS[@]}"; do
+        [[ ${COMP_WORDS[place]##*/} = omf_map ]] && printf '%s\n' "${COMP_WORDS[place + 1]}" && return
+    done
 }
 
 # The name of the object of the source that was given: main.s makes main.o.

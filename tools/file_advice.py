@@ -73,7 +73,7 @@ def wrong_text(fault):
 def wrong_segments(fault, kind):
     """What to do with a file of segments of another kind; None where it is of the right one."""
     if fault.command in LINKS and kind == RUNTIME:
-        return f"`{with_runtime(fault)}` links a program with it"
+        return f"`{with_runtime(fault)}` {'maps' if fault.command == 'omf_map' else 'links'} a program with it"
     if fault.command in (*LINKS, "lib") and kind == LOAD:
         return "it is linked already: give the objects of which it was made"
     if fault.command == "lib" and kind == LIBRARY:
@@ -86,11 +86,15 @@ def wrong_segments(fault, kind):
 
 
 def with_runtime(fault):
-    """The call of linkrt with the run-time library files at the end."""
+    """The call of linkrt, or of its map, with the run-time library files at the end."""
     runtime = [path for path in fault.files if kind_of(fault.omf, path) == RUNTIME]
     others = [path for path in fault.files if path not in runtime]
-    out = fault.words[0] if fault.command != "omf_map" else "OUT"
-    return " ".join(["linkrt", out, str(len(runtime)), *(others or ["FILE.."]), *runtime])
+    return " ".join([*linkrt(fault), str(len(runtime)), *(others or ["FILE.."]), *runtime])
+
+
+def linkrt(fault):
+    """What is before K in a call of linkrt, or of its map, in the place of the one that was refused."""
+    return ("omf_map", "linkrt") if fault.command == "omf_map" else ("linkrt", fault.words[0] if fault.words else "OUT")
 
 
 def bad_runtime(fault):
@@ -168,7 +172,7 @@ def unresolved(fault):
     for is_given, path, it in named:
         if not is_given and it.kind == "ENTRY":
             rest = " ".join([*fault.files, path])
-            yield Advice(f"{path}, a run-time library file, has it: `linkrt {fault.words[0] if fault.words else 'OUT'} 1 {rest}`")
+            yield Advice(f"{path}, a run-time library file, has it: `{' '.join(linkrt(fault))} 1 {rest}`")
         elif not is_given and it.kind in PUBLIC and not it.is_private:
             yield Advice(f"{path} defines it, and isn't among the arguments: `{fault.command} {' '.join([*fault.words, path])}`")
     for is_given, path, it in named:

@@ -11,9 +11,16 @@ FORMS = {
     "compact": "IN OUT",
     "list": "OBJ SRC",
     "run": "SCRIPT",
-    "omf_map": "FILE..",
+    "omf_map": "link FILE.., rtl FILE.. or linkrt K FILE..",
     "omf_expand": "SRC MACROS..",
 }
+# The commands whose links omf_map maps; it takes their arguments but for OUT.
+MAPPED = ("link", "rtl", "linkrt")
+
+
+def mapped(words):
+    """The command whose link omf_map maps, and the arguments of that command."""
+    return words[0], ["OUT", *words[1:]]
 
 
 def inputs(command, words):
@@ -22,7 +29,9 @@ def inputs(command, words):
         return [words[0], *words[2:]]
     if command in ("lib", "link", "rtl"):
         return words[1:]
-    if command in ("omf_map", "omf_expand"):
+    if command == "omf_map":
+        return inputs(*mapped(words))
+    if command == "omf_expand":
         return words
     return words[2:] if command == "linkrt" else words[:1]
 
@@ -36,6 +45,8 @@ def output(command, words):
 
 def bounds(command):
     """How many arguments a command takes at least and at most; none at most where only the program knows."""
+    if command == "omf_map":
+        return 2, None
     names = FORMS[command].split()
     if not names[-1].endswith(".."):
         return len(names), len(names)

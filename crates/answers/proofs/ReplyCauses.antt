@@ -1,4 +1,4 @@
--- No reply of a step is a refusal for want of memory.
+-- No reply of a step is a refusal for being out of memory.
 use Rattle.std.proofs.Common.{◌≡◌, ◌≢◌, ℕ, Bool, true, false, cond, List, [], ◌∷◌, length, map, Option, Some, None, refl, sym, subst}
 use Rattle.std.specs.Prelude.{take, drop}
 use Rattle.omf_format.specs.Header.{is_skipped}
@@ -256,7 +256,7 @@ module _ (Makes : MakesRoom) (held : FileMap) (state : Machine) where
   located Nowhere reply is = another reply Nothing is (λ e. cc)
   located (In id number offset) reply is = another reply (Lies id number offset) is (λ e. cc)
 
-  -- a step isn't answered by want of memory
+  -- a step isn't answered by being out of memory
   pub step_reply : (command : Command) (reply : Reply) (next : Machine) → Steps Makes held state command reply next → reply ≢ Refused Memory
   step_reply (Banks banks) reply next is = another reply Okay is.0 (λ e. cc)
   step_reply (Load path) reply next is = decided (load_refusal (length state.users)) state reply next _ (load_others (length state.users)) (λ of. found path of.0 reply next of.2) is

@@ -1,4 +1,4 @@
--- Every command of a script has a reply that isn't want of memory, in states with which a loader agrees.
+-- Every command of a script has a reply that isn't Memory, in states with which a loader agrees.
 use Rattle.std.specs.Prelude.{◌≡◌, ◌≢◌, ◌⊎◌, ◌<◌, ℕ, Bool, List, Some}
 use Rattle.std.specs.FinMap.{get}
 use Rattle.omf_format.specs.Number.{IsBytes}

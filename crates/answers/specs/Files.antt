@@ -1,5 +1,5 @@
 -- Every file has an answer: it is a list of segments, a load file, or a run-time library file, or has a first fault as such a file, which
--- isn't want of memory.
+-- isn't Memory.
 use Rattle.std.specs.Prelude.{◌≢◌, ◌⊎◌, ℕ, List}
 use Rattle.omf_format.specs.declared.fault.FileCause.TheVariants as files
 use Rattle.omf_format.specs.declared.fault.FileFault.{FileFault}

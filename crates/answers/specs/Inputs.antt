@@ -1,4 +1,4 @@
--- Every input of a command has an answer: what is made of it, or why nothing is, which isn't want of memory.
+-- Every input of a command has an answer: what is made of it, or why nothing is, which isn't Memory.
 use Rattle.std.specs.Prelude.{◌≢◌, ◌⊎◌, ℕ, List}
 use Rattle.std.specs.List.{AllByRecursion}
 use Rattle.omf_format.specs.declared.fault.FileCause.TheVariants as files

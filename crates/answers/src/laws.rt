@@ -6,47 +6,47 @@ ghost use Rattle.answers.specs.Inputs.{DumpsAreAnswered, DictionariesAreAnswered
 
 use lib_dict::rows_are_laid_out;
 
-/// A file is a list of segments, or has a first fault, which isn't want of memory.
+/// A file is a list of segments, or has a first fault, which isn't Memory.
 pub fn files_are_answered()
     ensures { FilesAreAnswered }
 {}
 
-/// A file is a load file, or has a first fault as one, which isn't want of memory; and so it is with run-time library files.
+/// A file is a load file, or has a first fault as one, which isn't Memory; and so it is with run-time library files.
 pub fn load_files_are_answered()
     ensures load { LoadFilesAreAnswered }
     ensures runtime { RuntimeFilesAreAnswered }
 {}
 
-/// A file has a listing, or a first fault, which isn't want of memory.
+/// A file has a listing, or a first fault, which isn't Memory.
 pub fn dumps_are_answered()
     ensures { DumpsAreAnswered }
 {}
 
-/// Files have a library, or a first fault, which isn't want of memory; and a file is a library with its rows, one whose dictionary is false, no
+/// Files have a library, or a first fault, which isn't Memory; and a file is a library with its rows, one whose dictionary is false, no
 /// library, or no list of segments.
 pub fn libraries_are_answered()
     ensures made { LibrariesAreAnswered }
     ensures read { DictionariesAreAnswered }
 {}
 
-/// A file has a canonical form, or a reason why it has none, which isn't want of memory.
+/// A file has a canonical form, or a reason why it has none, which isn't Memory.
 pub fn load_files_are_compacted()
     ensures { LoadFilesAreCompacted }
 {}
 
-/// Files have a load file, or a first fault of a phase, which isn't want of memory.
+/// Files have a load file, or a first fault of a phase, which isn't Memory.
 pub fn links_are_answered()
     ensures { LinksAreAnswered }
 {
     rows_are_laid_out();
 }
 
-/// A file has a source, or a reason why it has none, which isn't want of memory.
+/// A file has a source, or a reason why it has none, which isn't Memory.
 pub fn sources_are_listed()
     ensures { SourcesAreListed }
 {}
 
-/// A text is a script of commands, or has a first bad line, whose cause isn't want of memory.
+/// A text is a script of commands, or has a first bad line, whose cause isn't Memory.
 pub fn scripts_are_answered()
     ensures { ScriptsAreAnswered }
 {}
@@ -57,7 +57,7 @@ pub fn wants_are_answered()
     ensures slides { SlidesAreAnswered }
 {}
 
-/// In a state with which a loader agrees each command of a script has a reply, which isn't want of memory, and leads to a state.
+/// In a state with which a loader agrees each command of a script has a reply, which isn't Memory, and leads to a state.
 pub fn commands_are_answered()
     ensures { CommandsAreAnswered }
 {}

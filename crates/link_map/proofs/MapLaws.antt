@@ -13,8 +13,11 @@ use Rattle.link_meaning.specs.Layout.{load_headers}
 use Rattle.link_meaning.specs.LinkValues.{EquateAnswer}
 use Rattle.link_meaning.specs.LinkedCells.{table_number, targets}
 use Rattle.link_meaning.specs.LinkFaults.{LinkInput, IsResolved}
-use Rattle.link_map.specs.MapText.{numbered_texts, load_text, load_line, entry_line, table_text, map_text, IsMapOf}
+use Rattle.link_meaning.specs.LinkWritten.{table_images}
+use Rattle.link_file.specs.Paths.{paths_of}
+use Rattle.link_map.specs.MapText.{numbered_texts, load_text, load_line, entry_line, table_text, runtimes_text, exports_text, map_text, IsMapOf}
 use Rattle.link_map.specs.Standing.{IsDrawn}
+use Rattle.link_map.proofs.TextLaws.{both}
 
 -- ---- the jump table
 
@@ -45,15 +48,20 @@ table_some number (t ∷ ts) size name some is named =
 
 -- ---- the map
 
--- the load segments, and the table after them
-pub map_is : (list : List Member) (table : List EquateAnswer) (loads text : List ℕ) (number : ℕ) (ts : List Target) → loads ≡ numbered_texts (load_text list table) 1 (load_headers list)
-    → text ≡ loads ++ table_text number ts → number ≡ table_number list → ts ≡ targets list table → text ≡ map_text list table
+-- the load segments, the table after them, the pathnames after it, and what is exported
+pub map_is : (list : List Member) (table : List EquateAnswer) (loads called listed text : List ℕ) (number after : ℕ) (ts : List Target) → loads ≡ numbered_texts (load_text list table) 1 (load_headers list)
+    → called ≡ loads ++ table_text number ts → listed ≡ called ++ runtimes_text after (paths_of list) → text ≡ listed ++ exports_text list table → number ≡ table_number list
+    → after ≡ number + length (table_images number ts) → ts ≡ targets list table → text ≡ map_text list table
 unfolding map_text
-map_is list table loads text number ts drawn more counted called =
-    more
-    ∙ ap (λ (l : List ℕ). l ++ table_text number ts) drawn
-    ∙ ap (λ (n : ℕ). numbered_texts (load_text list table) 1 (load_headers list) ++ table_text n ts) counted
-    ∙ ap (λ (l : List Target). numbered_texts (load_text list table) 1 (load_headers list) ++ table_text (table_number list) l) called
+map_is list table loads called listed text number after ts drawn more files last counted at calls =
+    let first = numbered_texts (load_text list table) 1 (load_headers list) in
+    let exported = exports_text list table in
+    let rest : ℕ → List Target → List ℕ = λ n l. table_text n l ++ (runtimes_text (n + length (table_images n l)) (paths_of list) ++ exported) in
+    both loads (table_text number ts) (runtimes_text after (paths_of list) ++ exported) called text more (both called (runtimes_text after (paths_of list)) exported listed text files last)
+    ∙ ap (λ (l : List ℕ). l ++ (table_text number ts ++ (runtimes_text after (paths_of list) ++ exported))) drawn
+    ∙ ap (λ (n : ℕ). first ++ (table_text number ts ++ (runtimes_text n (paths_of list) ++ exported))) at
+    ∙ ap (λ (n : ℕ). first ++ rest n ts) counted
+    ∙ ap (λ (l : List Target). first ++ rest (table_number list) l) calls
 
 -- the map of files that are linked
 pub mapped_is : (given : LinkInput) (list : List Member) (text : List ℕ) → IsResolved given list → IsDrawn list text → IsMapOf given text

@@ -1,2 +1,3 @@
 pub mod MapText
 pub mod Standing
+pub mod Listings

@@ -7,12 +7,15 @@ ghost use Rattle.link_meaning.specs.Member.{Member};
 ghost use Rattle.link_meaning.specs.Layout.{load_headers};
 ghost use Rattle.link_program.specs.Linked.{member_at};
 ghost use Rattle.link_program.specs.Programs.{header_at};
-ghost use Rattle.link_map.specs.MapText.{numbered_texts, member_line, text_in, load_line, load_text};
+ghost use Rattle.link_meaning.specs.LinkValues.{IsTable};
+ghost use Rattle.link_map.specs.MapText.{numbered_texts, member_line, text_in, load_line, load_text, exports_text};
+ghost use Rattle.link_map.specs.Listings.{exported_in};
 ghost use Rattle.link_map.specs.Standing.{HasMember, HasLoad};
 
-use crate::symbols::put_symbols;
+use crate::symbols::{Listed, put_listed, put_symbols};
 use dump_lines::{put_labelled, put_quoted};
 use link_file::EquateValues;
+use link_meaning::LinkForm;
 use link_program::LinkMember;
 use omf_base::{Line, LineFault};
 use omf_header::Header;
@@ -130,6 +133,36 @@ pub fn put_loads(line: &mut Line, values: &EquateValues) -> Result<(), LineFault
     'loads: while number < program.load_count() {
         number += 1;
         put_load(line, values, number)?;
+    }
+    Ok(())
+}
+
+/// Appends the lines of what the member at a place, from 1, exports.
+fn put_exported(line: &mut Line, values: &EquateValues, place: u32) -> Result<(), LineFault>
+    requires { HasMember values.now.list place }
+    ensures { OnOk result ((m : Member) → member_at values.now.list place ≡ Some m
+        → line.new ≡ line.old ++ exported_in values.now.list values.now.table place m) }
+{
+    let program = values.program();
+    match program.view(place) {
+        Some(segment) => put_listed(line, values, Listed::Exports, place, segment),
+        None => unreachable!(),
+    }
+}
+
+/// Appends the lines of all names that a run-time library file exports; a program exports nothing.
+pub fn put_exports(line: &mut Line, values: &EquateValues) -> Result<(), LineFault>
+    ensures { OnOk result (IsTable values.now.list values.now.table → line.new ≡ line.old ++ exports_text values.now.list values.now.table) }
+{
+    let program = values.program();
+    match program.form() {
+        LinkForm::Program => return Ok(()),
+        LinkForm::Runtime => {}
+    }
+    let mut place = 0;
+    'members: while place < program.members() {
+        place += 1;
+        put_exported(line, values, place)?;
     }
     Ok(())
 }

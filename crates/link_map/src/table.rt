@@ -2,13 +2,26 @@
 
 ghost use Rattle.std.specs.Prelude.{◌≡◌, ◌++◌, ◌<◌, map, OnOk};
 ghost use Rattle.load_meaning.specs.Table.{most_entries, file_entry, IsTableOf};
-ghost use Rattle.link_map.specs.MapText.{numbered_texts, entry_line, table_text};
+ghost use Rattle.link_map.specs.MapText.{numbered_texts, segment_text, entry_line, table_text};
 
 use crate::members::{LoadLine, put_load_line};
 use dump_lines::put_field;
 use jump_table::{Table, Target, target_at};
 use omf_base::{Line, LineFault};
 use std::alloc::Global;
+
+/// Appends the number of a load segment, and before it that of its file, where this isn't the linked file itself.
+fn put_segment(line: &mut Line, file: u16, segment: u16) -> Result<(), LineFault>
+    ensures { OnOk result (line.new ≡ line.old ++ segment_text file segment) }
+{
+    if file == 1 {
+        return put_field(line, 4, u32::from(segment));
+    }
+    line.text(" ")?;
+    line.dec(u32::from(file))?;
+    line.text(":")?;
+    line.hex(u32::from(segment), 4)
+}
 
 /// Appends the line of an entry: the table's number and the offset of the entry's code there, and where it leads.
 #[tactic(auto, unfolding(crate::specs::MapText::entry_line))]
@@ -20,7 +33,7 @@ fn put_entry(line: &mut Line, number: u32, place: u32, target: Target) -> Result
     put_field(line, 4, number)?;
     put_field(line, 8, 8 + 14 * place + 10)?;
     line.text(" calls")?;
-    put_field(line, 4, u32::from(target.segment))?;
+    put_segment(line, target.file, target.segment)?;
     put_field(line, 8, target.offset)?;
     line.text("\n")
 }

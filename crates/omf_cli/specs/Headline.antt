@@ -1,9 +1,12 @@
 -- The headline on one page: what an object, a load file, a load of it, a reply and a listing are, as laws about the definitions that
 -- the contracts of the commands cite. The contracts tie these to the bytes that are written and the lines that are printed.
 use Rattle.std.specs.Prelude.{◌≡◌, ℕ, List}
-use Rattle.source_meaning.specs.ObjectLaws.{OneObject, NoFaultBeside}
-use Rattle.source_meaning.specs.ObjectLaws.{ObjectIsFile}
+use Rattle.answers.specs.Commands.{CommandsAreAnswered}
+use Rattle.answers.specs.Inputs.{DumpsAreAnswered, LibrariesAreAnswered, LoadFilesAreCompacted, SourcesAreListed, LinksAreAnswered, ScriptsAreAnswered}
+use Rattle.source_meaning.specs.ObjectLaws.{OneObject, NoFaultBeside, NoneUnanswered, ObjectIsFile}
 use Rattle.link_meaning.specs.EmitFaults.{OneLinkAnswer}
+use Rattle.link_laws.specs.ReadBack.{ExportsAreReadBack, PathsAreReadBack}
+use Rattle.link_laws.specs.Parts.{PartsAreOfTheFile}
 use Rattle.link_meaning.specs.LinkLoadable.{StandsForLinkedCells, OnlyCallsReachDynamic, IsLoadedWhereNoneSkipped}
 use Rattle.loader_agrees.specs.StepsOnce.{StepsOnce}
 use Rattle.dump_lines.specs.Listing.{IsListing}
@@ -22,8 +25,10 @@ pub record Headline : Type 0 where
   pub linked : OneLinkAnswer
   -- the segments of the load file, read back, have the headers of the layout and the linked cells
   pub stands_for : StandsForLinkedCells
-  -- of another dynamic segment nothing but a call through the jump table names a place
-  pub reached : OnlyCallsReachDynamic
+  -- of another dynamic segment nothing but a call through the jump table names a place, and no cell names a place in another file
+  pub reached : OnlyCallsReachDynamic × PartsAreOfTheFile
+  -- its exports, read back, are the public definitions of a run-time library file, and its rows are the given paths
+  pub named : ExportsAreReadBack × PathsAreReadBack
   -- where nothing in it names a skipped segment it is a load file
   pub loadable : IsLoadedWhereNoneSkipped
   -- and a load of it is answered by its program, or refused for a reason outside the file
@@ -31,3 +36,12 @@ pub record Headline : Type 0 where
   -- a command of a script has one reply and one next state at most
   pub answered : StepsOnce
   pub listed : OneListing
+  -- every input has an answer, which isn't Memory: a source not none of the two, and constructively all others
+  pub has_object : NoneUnanswered
+  pub has_link : LinksAreAnswered
+  pub has_library : LibrariesAreAnswered
+  pub has_listing : DumpsAreAnswered
+  pub has_source : SourcesAreListed
+  pub has_form : LoadFilesAreCompacted
+  pub has_commands : ScriptsAreAnswered
+  pub has_reply : CommandsAreAnswered

@@ -1,11 +1,14 @@
-//! The program `omf_map FILE..`: prints the map of the link of 1 to 255 files, objects and libraries, or their first fault.
+//! The program `omf_map`: prints the map of the link of files, or their first fault. `link FILE..`, `rtl FILE..` and `linkrt K FILE..` say which
+//! link, as they do to `omf`.
 #![tactic(auto)]
 
+mod form;
+mod making;
 mod map;
 
 pub use map::run_map;
-use omf_cli::Status;
 use omf_io::{HostFiles, HostSink};
+use omf_making::Status;
 use std::alloc::AllocError;
 use std::env;
 use std::io::{self, ErrorKind};

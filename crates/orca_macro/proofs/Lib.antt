@@ -12,3 +12,4 @@ pub mod Plans
 pub mod Given
 pub mod Heads
 pub mod Sources
+pub mod NextVisits

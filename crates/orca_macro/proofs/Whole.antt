@@ -1,6 +1,6 @@
 -- Files that are read one after another.
 use Rattle.std.proofs.Common.{◌≡◌, ℕ, zero, suc, ◌+◌, ◌<◌, ◌≤◌, true, false, List, [], ◌∷◌, ◌++◌, length, get_or, drop, map, Option, Some, None, refl, sym, ap, subst, ◌∙◌, arith, append_assoc, append-nil}
-use Rattle.std.specs.Prelude.{Result, Ok, Err, IfOk, IfErr}
+use Rattle.std.specs.Prelude.{Result, Ok, Err, IfOk, IfErr, OnOk}
 use Rattle.std.specs.Global.{Vec}
 use Rattle.std.proofs.lemmas.List.{length-map}
 use Rattle.omf_format.specs.Lines.{lines_of}
@@ -231,6 +231,21 @@ module _ (source : List ℕ) (macros : List (List ℕ)) (lines : List Line) (fil
   pub all_refused : (found : Result (List Line) MacroFault) → HasVisited program found → IfErr found (λ (fault : MacroFault). IsMacroFault source macros fault)
   all_refused (Ok x) has = tt
   all_refused (Err fault) has = visits_refused fault has
+
+-- the program alone
+module _ (source : List ℕ) (macros : List (List ℕ)) (lines : List Line) (files : List (List Line)) (lines_are : lines ≡ numbered_lines 0 1 (lines_of source)) (files_are : files ≡ lines_from 1 macros)
+    (good : first_in file_text_fault 1 macros ≡ None) (source_good : file_text_fault 0 source ≡ None) where
+  pub read_good : (found : Result MacroProgram MacroFault) → IsProgram lines files found → OnOk found (AreGoodFiles source macros)
+  read_good (Ok program) is = good_files source macros lines files lines_are files_are good source_good program is
+  read_good (Err fault) is = tt
+
+  pub read_as : (found : Result MacroProgram MacroFault) → IsProgram lines files found → IfOk found (λ (program : MacroProgram). program ≡ program_of source macros)
+  read_as (Ok program) is = program_is source macros lines files lines_are files_are program is
+  read_as (Err fault) is = tt
+
+  pub read_refused : (found : Result MacroProgram MacroFault) → IsProgram lines files found → IfErr found (λ (fault : MacroFault). IsMacroFault source macros fault)
+  read_refused (Ok program) is = tt
+  read_refused (Err fault) is = parts_refused source macros lines files fault lines_are files_are good source_good is
 
 pub can_read : (file : ℕ) (source : List ℕ) (fault : TextFault) → IsRefused file source fault → CanRead fault.cause
 can_read file source fault is = by_cause fault.cause is.cause_is

@@ -7,3 +7,4 @@ pub mod Files
 pub mod Plan
 pub mod Untouched
 pub mod Head
+pub mod NextVisit

@@ -4,7 +4,8 @@ ghost use Rattle.std.specs.Prelude.{◌≡◌, ◌≤◌, ◌<◌, ◌+◌, ◌+
 ghost use Rattle.std.specs.Prelude.{IfNone, Ok, Err};
 ghost use Rattle.macro_meaning.specs.Call.{no_symbols};
 ghost use Rattle.macro_meaning.specs.Effect as effects;
-ghost use Rattle.macro_meaning.specs.Expansion.{IsExpanded, IsMacroFault, fault_at, file_text_fault, first_in};
+ghost use Rattle.macro_meaning.specs.Expansion as meaning;
+ghost use Rattle.macro_meaning.specs.Expansion.{AreGoodFiles, IsExpanded, IsMacroFault, fault_at, file_text_fault, first_in};
 ghost use Rattle.macro_meaning.specs.Visit.{Visit, no_texts, line_at, root_by, setting_of, most_visits};
 ghost use Rattle.macro_meaning.specs.laws.Steps.{given_by};
 ghost use Rattle.omf_format.specs.Lines.{lines_of};
@@ -287,7 +288,7 @@ fn carry_out(
 }
 
 /// Visits a line. If a line of the source is given unchanged, nothing else is looked for in it.
-fn visit(
+pub(crate) fn visit(
     alloc: Global,
     program: &MacroProgram,
     state: &mut ExpansionState,
@@ -414,6 +415,33 @@ pub fn expand(alloc: Global, source: &[u8], macros: &Vec<Vec<u8>>) -> Result<Lin
     drop(program);
     drop(files);
     match visited {
+        Ok(found) => found,
+        Err(_) => Err(no_memory()),
+    }
+}
+
+/// The lines of a source without its definitions, and the macros: those of the macro files, and then its own. Otherwise the
+/// first fault: of reading, macro files in order and then the source; else of a definition, in the same order.
+pub fn read_program(
+    alloc: Global,
+    source: &[u8],
+    macros: &Vec<Vec<u8>>,
+) -> Result<MacroProgram, MacroFault>
+    ensures good { OnOk result (AreGoodFiles source.now (texts_of_files macros.now.items)) }
+    ensures program { IfOk result (λ program. program ≡ meaning.program_of source.now (texts_of_files macros.now.items)) }
+    ensures refused { IfErr result (λ fault. IsMacroFault source.now (texts_of_files macros.now.items) fault) }
+{
+    let files = read_all(alloc, macros.as_slice())?;
+    let lines = match read_file(alloc, 0, source) {
+        Ok(lines) => lines,
+        Err(fault) => {
+            drop(files);
+            return Err(fault);
+        }
+    };
+    let read = program_of(alloc, lines, files.as_slice());
+    drop(files);
+    match read {
         Ok(found) => found,
         Err(_) => Err(no_memory()),
     }

@@ -20,7 +20,7 @@ use std::marker::Model;
 
 /// The lines of the source, and the macros with their names. Contracts see the lines and the macros.
 #[derive(Drop)]
-pub(crate) struct MacroProgram {
+pub struct MacroProgram {
     source: MacroBody,
     definitions: Vec<MacroDefinition>,
     names: NameMap<usize>,

@@ -25,9 +25,12 @@ use std::alloc::{AllocError, Global};
 
 /// How the visits go on.
 #[derive(Clone, Copy)]
-pub(crate) enum Flow {
+pub enum Flow {
+    /// Another line is visited.
     Goes,
+    /// That was the last one.
     Ends,
+    /// The line has a fault.
     Stops(MacroCause),
 }
 

@@ -16,7 +16,7 @@ use Rattle.omf_format.specs.laws.BodyLaws.{body_fits}
 use Rattle.answers.specs.Files.{FilesAreAnswered}
 use Rattle.answers.specs.laws.Walks.{Comes, Ends, Stops, Fails, reader_comes}
 
--- no fault of a header or a record is want of memory
+-- no fault of a header or a record is Memory
 pub header_cause : (at version : ℕ) (bytes : List ℕ) (fault : HeaderFault) → header_fault bytes ≡ Some fault → (to_file_header_fault at version fault).0 ≢ Memory
 header_cause at version bytes (header.Truncated n) is = λ e. cc
 header_cause at version bytes (header.Unsupported field) is = λ e. cc

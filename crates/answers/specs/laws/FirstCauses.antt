@@ -1,4 +1,4 @@
--- No first fault of a file, a load file or a run-time library file is want of memory.
+-- No first fault of a file, a load file or a run-time library file is Memory.
 use Rattle.std.proofs.Common.{◌≡◌, ◌≢◌, inl, inr, ℕ, List, drop, Option, Some, None, Result, Ok, Err, sym, subst}
 use Rattle.std.specs.Prelude.{option_map}
 use Rattle.omf_format.specs.declared.fault.HeaderFault.{HeaderFault}

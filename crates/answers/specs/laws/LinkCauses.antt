@@ -1,4 +1,4 @@
--- No first fault of a link is want of memory.
+-- No first fault of a link is Memory.
 use Rattle.std.proofs.Common.{◌≡◌, ◌≢◌, inl, inr, ℕ, ◌+◌, Bool, true, false, cond, List, [], ◌∷◌, length, Some, None, Result, Ok, Err, refl, sym, subst}
 use Rattle.std.specs.Prelude.{option_map, ◌&&◌, not, nat_le, ◌==◌}
 use Rattle.std.specs.Int.{is_power_of_two}

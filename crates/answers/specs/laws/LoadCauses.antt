@@ -1,4 +1,4 @@
--- No fault of a load file is want of memory.
+-- No fault of a load file is Memory.
 use Rattle.std.proofs.Common.{◌≡◌, ◌≢◌, inl, inr, ℕ, ◌+◌, Bool, true, false, cond, List, [], ◌∷◌, Option, Some, None, refl, ap, subst}
 use Rattle.std.specs.Prelude.{option_map, nat_lt, not, ◌==◌, ◌&&◌, ◌||◌, codes, length}
 use Rattle.std.specs.Str.{bytes_eq}
@@ -51,7 +51,7 @@ refused_cause _ cause e = absurd cc
 
 -- ---- the later phases
 
--- a phase has no fault that is want of memory
+-- a phase has no fault that is Memory
 abbrev HasOthers : (ℕ → Segment → Option Fault) → Type 0
 HasOthers phase = (number : ℕ) (s : Segment) (fault : Fault) → phase number s ≡ Some fault → IsOther fault.0
 

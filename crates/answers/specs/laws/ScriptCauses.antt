@@ -1,4 +1,4 @@
--- No first fault of a script is want of memory.
+-- No first fault of a script is Memory.
 use Rattle.std.proofs.Common.{◌≢◌, ℕ, Bool, cond, List, [], ◌∷◌, Option, Some, None, Result, Ok, Err, sym, ap, subst}
 use Rattle.std.specs.Prelude.{not}
 use Rattle.loader_machine.specs.declared.script.CommandName.{CommandName}

@@ -1,8 +1,7 @@
 use Rattle.std.proofs.Common.{inl, inr}
 use Rattle.std.proofs.lemmas.Result.{err_from_is_err_and, IfOk-weaker, IfErr-weaker}
-use Rattle.link_meaning.specs.LinkFaults.{plain}
 use Rattle.link_meaning.specs.EmitFaults.{OfResolving, OfEmitting}
-use Rattle.link_resolve.specs.Resolved.{all_bytes}
+use Rattle.link_resolve.specs.Resolved.{given_of}
 use Rattle.link_map.proofs.MapLaws.{mapped_is}
 use Rattle.link_map.proofs.mapping.map_files.Goals as goal
 
@@ -17,7 +16,7 @@ returns-in_err-program-clause-refused c =
 pub returns-clause-mapped : goal.returns-clause-mapped
 returns-clause-mapped c =
     IfOk-weaker c.map_program-drawn.result _ _
-    (λ line drawn. mapped_is (plain (all_bytes c.args.inputs.now.items)) c.in_ok-program.program line c.in_ok-program.ensures.resolved drawn)
+    (λ line drawn. mapped_is (given_of c.args.inputs.now.items c.args.runtimes.now.items c.args.form) c.in_ok-program.program line c.in_ok-program.ensures.resolved drawn)
     c.map_program-drawn.ensures.drawn
 
 pub returns-clause-refused : goal.returns-clause-refused

@@ -1,0 +1,4 @@
+pub mod SeenProofs
+pub mod GivenProofs
+pub mod RowProofs
+pub mod CellProofs
