@@ -1,0 +1,2 @@
+-- Lemmas of the calls for C.
+pub mod Answering
