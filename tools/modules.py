@@ -99,7 +99,7 @@ def prove(name, processor):
 
 
 class OfGate:
-    """A program that the gate has just proved for x86-64, as the object that it left."""
+    """A program that the gate has proved for x86-64, of the sources as they are, as the object that it left."""
 
     proved = True
 
@@ -107,13 +107,18 @@ class OfGate:
         self.name, self.object = name, CRATES / name / "out" / f"{name}.o"
 
     def is_current(self):
-        return built.is_of_gate(self.object)
+        return built.is_of_gate(self.object) and built.sum_at_gate() == built.THE_PROGRAMS.sum_of_sources()
 
     def sum(self):
         return hashlib.sha256(self.object.read_bytes()).hexdigest()
 
 
-def chosen(name, processor, gated=False):
-    """The proved module of a program for a processor, where that is there and no source changed since; else the unproved one."""
-    proved = [Module(name, processor, proved=True), *([OfGate(name)] if gated and processor == PROCESSOR else [])]
-    return next((it for it in proved if it.is_current()), None) or unproved(name)
+def proved(name, processor, as_object):
+    """The proved module of a program for a processor, or, where the object alone is enough, what the gate left; None, where neither is there
+    of the sources as they are."""
+    found = [Module(name, processor, proved=True), *([OfGate(name)] if as_object and processor == PROCESSOR else [])]
+    return next((it for it in found if it.is_current()), None)
+
+
+def chosen(name, processor, as_object):
+    return proved(name, processor, as_object) or unproved(name)

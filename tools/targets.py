@@ -104,9 +104,12 @@ class Target:
         made = self.made_of(module.name)
         return self.program(module.name).exists() and made.exists() and made.read_text() == self.mark(module)
 
-    def build(self, name=PROGRAM, gated=False):
+    def proved(self, name):
+        return modules.proved(name, self.processor, self.is_linux())
+
+    def build(self, name=PROGRAM):
         """Builds a program, or its object where nothing links it here, where it isn't built of its module yet."""
-        module, clock = modules.chosen(name, self.processor, gated and not self.renames), Clock()
+        module, clock = modules.chosen(name, self.processor, self.is_linux()), Clock()
         if not self.is_made_of(module):
             self.folder.mkdir(parents=True, exist_ok=True)
             mark, made = self.mark(module), self.object_of(module)
@@ -121,8 +124,8 @@ class Target:
 
     def is_ready(self):
         """Whether all programs are built of proved modules, and no source changed since."""
-        proved = [modules.Module(name, self.processor, proved=True) for name in PROGRAMS]
-        return all(module.is_current() and self.is_made_of(module) for module in proved)
+        found = [self.proved(name) for name in PROGRAMS]
+        return all(module and self.is_made_of(module) for module in found)
 
 
 LINUX_SHIMS = ("heap.c", "start.c")
