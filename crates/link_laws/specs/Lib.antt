@@ -1,4 +1,5 @@
 pub mod ReadBack
 pub mod Formulas
 pub mod Parts
+pub mod Pages
 pub mod laws

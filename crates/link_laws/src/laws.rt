@@ -3,6 +3,7 @@
 ghost use Rattle.link_laws.specs.ReadBack.{ExportsAreReadBack, PathsAreReadBack};
 ghost use Rattle.link_laws.specs.Formulas.{FormulasAreSpelled, SpelledIsFound};
 ghost use Rattle.link_laws.specs.Parts.{PartsAreOfTheFile, OutsideIsCalled};
+ghost use Rattle.link_laws.specs.Pages.{PatchesAreByPages};
 
 /// The linked file, read back, exports the public definitions of its list, of a run-time library file alone, and names the files with which
 /// it was linked, in their order.
@@ -21,4 +22,9 @@ pub fn formulas_are_spelled()
 pub fn parts_are_of_the_file()
     ensures parts { PartsAreOfTheFile }
     ensures called { OutsideIsCalled }
+{}
+
+/// The patches of a SUPER record are at the locations that its pages give: the low bytes of each page are above 256 times its number.
+pub fn patches_are_by_pages()
+    ensures { PatchesAreByPages }
 {}

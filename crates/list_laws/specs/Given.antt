@@ -1,5 +1,5 @@
 -- What a line of a listing represents: the records that it gives to its segment, the name that it defines, and what it leaves.
-use Rattle.std.specs.Prelude.{◌≡◌, ℕ, ◌-◌, Bool, true, false, List, [], ◌∷◌, ◌++◌, length, replicate, Some, None, if◌then◌else◌}
+use Rattle.std.specs.Prelude.{◌≡◌, ℕ, ◌-◌, Bool, true, false, List, [], ◌∷◌, ◌++◌, length, replicate, Some, None}
 use Rattle.byteorder.specs.Endian.{little_bytes}
 use Rattle.omf_format.specs.declared.codes.TheConstants.{DIRECTIVE_LABEL, EXPR}
 use Rattle.omf_format.specs.Ascii as ascii
@@ -11,12 +11,14 @@ use Rattle.omf_format.specs.Record.{Record, End, Const, Align, Org, Space, Using
 use Rattle.orca_meaning.specs.Names.{with_name}
 use Rattle.orca_meaning.specs.declared.mnemonics.Mnemonic.{Mnemonic}
 use Rattle.orca_meaning.specs.declared.modes.Mode.{Mode}
+use Rattle.asm_meaning.specs.declared.directives.Class.{Class}
+use Rattle.asm_meaning.specs.declared.directives.Class.TheVariants.{Code, Data}
 use Rattle.asm_meaning.specs.declared.directives.Switch.{Switch}
 use Rattle.asm_meaning.specs.declared.directives.Switch.TheVariants.{LongA, LongI, Msb}
 use Rattle.asm_meaning.specs.Formulas.{expression_text}
 use Rattle.asm_meaning.specs.Instruction.{Widths, kind_of, operand_bytes, operand_record, opcode_in}
 use Rattle.asm_meaning.specs.Pieces.{place_after}
-use Rattle.asm_meaning.specs.State.{State, StartedSegment, Names, no_names}
+use Rattle.asm_meaning.specs.State.{State, StartedSegment, Names, header_of, no_names}
 use Rattle.list_meaning.specs.Listed.{ListedStatement, NextAlignIs, NextOrg, StartIs, KindIs, SwitchIs, Ds, Aligns, OrgIs, UsingIs, StrongIs, Labels, Equates, Instructs, Bytes, WeakIs, FormulaIs, EndIs, Wanted, None', Number, Banks, Label, Moved}
 
 -- ---- records
@@ -113,26 +115,30 @@ pub record Leaves (said : ListedStatement) (state : State) (s : StartedSegment) 
 
 -- ---- what any line leaves
 
--- START or DATA opens a segment with this name and this LOADNAME, and with the ORG and the ALIGN that wait for it
+-- START is for code, and DATA for data
+abbrev pub class_of : Bool → Class
+class_of true = Data
+class_of false = Code
+
+-- START or DATA opens a segment with the header of its class, this name and this LOADNAME, in which nothing but the name is defined. It
+-- takes the ORG, the ALIGN and the records that wait for it, so that none are left, and nothing else is changed.
 pub record Opens (crosses : Bool) (name load_name : List ℕ) (state next : State) : Type 0 where
   pub after : StartedSegment
   pub was : state.segment ≡ None
-  pub here : next.segment ≡ Some after
-  pub name_is : after.header.name ≡ name
-  pub load_name_is : after.header.load_name ≡ load_name ++ replicate (10 - length load_name) ascii.space
-  pub bank_size : after.header.bank_size ≡ (if crosses then 0 else 0x10000)
-  pub org : after.header.org ≡ state.org
-  pub align : after.header.align ≡ state.align
+  pub next_is : next ≡ record state { org = 0; align = 0; front = []; segment = Some after }
+  pub class : after.class ≡ class_of crosses
+  pub header : after.header ≡ header_of state (class_of crosses) name (load_name ++ replicate (10 - length load_name) ascii.space)
   pub names : after.names ≡ with_name name None no_names
-  pub body : after.body ≡ []
-  pub ended : next.ended ≡ state.ended
+  pub body : after.body ≡ state.front
 
--- END ends it, and LENGTH is the number of its cells
+-- END ends it, LENGTH is the number of its cells, and nothing else is changed
 pub record Closes (state next : State) : Type 0 where
   pub s : StartedSegment
   pub was : state.segment ≡ Some s
-  pub here : next.segment ≡ None
-  pub ended : next.ended ≡ state.ended ++ record { header = record s.header { length = place_after 0 (s.body ++ End ∷ []) }; body = s.body ++ End ∷ [] } ∷ []
+  pub next_is : next ≡ record state {
+    segment = None;
+    ended = state.ended ++ record { header = record s.header { length = place_after 0 (s.body ++ End ∷ []) }; body = s.body ++ End ∷ [] } ∷ [];
+  }
 
 -- what a line was written for: ALIGN and ORG before START wait for the next segment, and all lines after it give to the open one
 abbrev pub IsLeft : ListedStatement → State → State → Type 0

@@ -1,5 +1,6 @@
--- The laws of listings: each line is read as it was meant, and the whole is assembled to segments that represent the same.
-use Rattle.std.specs.Prelude.{◌≡◌, ℕ, ◌+◌, ◌≤◌, List, [], ◌∷◌, ◌++◌, length, map, Ok}
+-- The laws of listings: each line is read as it was meant, and the whole is assembled to segments that represent the same; a file has one
+-- listing or one first fault.
+use Rattle.std.specs.Prelude.{◌≡◌, ◌≢◌, ℕ, ◌+◌, ◌≤◌, List, [], ◌∷◌, ◌++◌, length, map, Ok}
 use Rattle.omf_format.specs.File.{Segment, IsFile}
 use Rattle.omf_format.specs.Number.{IsBytes}
 use Rattle.orca_meaning.specs.Line.{line_of, numbered_lines}
@@ -10,6 +11,9 @@ use Rattle.asm_meaning.specs.State.{State, start}
 use Rattle.asm_meaning.specs.Statement.{IsStep}
 use Rattle.list_laws.specs.Flat.{AreAllAlike}
 use Rattle.list_laws.specs.Given.{IsLeft}
+use Rattle.list_meaning.specs.declared.faults.ListCause.TheVariants.{Memory}
+use Rattle.list_meaning.specs.declared.faults.ListFault.{ListFault}
+use Rattle.list_meaning.specs.Answer.{IsListing, IsListFault}
 use Rattle.list_meaning.specs.Listed.{ListedStatement, said_text, listing_text}
 use Rattle.list_meaning.specs.Listing.{listing_from}
 
@@ -28,3 +32,21 @@ pub data IsReadAgain (text : List ℕ) (segments : List Segment) : Type 0 where
 abbrev pub ListingIsReadAgain : Type 0
 ListingIsReadAgain = (file : List ℕ) (segments : List Segment) (all : List ListedStatement) → IsBytes file → IsFile segments file → listing_from 1 segments ≡ Ok all → length all ≤ 65536
     → IsReadAgain (listing_text all) segments
+
+-- the object that is assembled from a file's listing without macros has that listing
+abbrev pub ListingIsListedAgain : Type 0
+ListingIsListedAgain = (file text object : List ℕ) → IsBytes file → IsListing file text → IsObject text [] object → IsListing object text
+
+-- ---- one answer
+
+-- a file has one listing at most
+abbrev pub ListingIsOne : Type 0
+ListingIsOne = (file one other : List ℕ) → IsListing file one → IsListing file other → one ≡ other
+
+-- one that has a listing has no fault but Memory
+abbrev pub NoFaultBeside : Type 0
+NoFaultBeside = (file text : List ℕ) (fault : ListFault) → IsListing file text → IsListFault file fault → fault.cause ≡ Memory
+
+-- a file has one first fault at most but Memory
+abbrev pub FaultIsOne : Type 0
+FaultIsOne = (file : List ℕ) (one other : ListFault) → IsListFault file one → IsListFault file other → one.cause ≢ Memory → other.cause ≢ Memory → one ≡ other

@@ -19,8 +19,11 @@ pub mod After
 pub mod RunGives
 pub mod FormulaCan
 pub mod Content
+pub mod Again
 pub mod RecordLines
 pub mod ReadFacts
 pub mod SegmentLines
 pub mod SaidLines
+pub mod ListedAgain
 pub mod ListingProofs
+pub mod Once

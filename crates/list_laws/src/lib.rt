@@ -3,4 +3,4 @@
 
 mod laws;
 
-pub use laws::listings_are_read_again;
+pub use laws::{files_have_one_listing, listings_are_read_again};

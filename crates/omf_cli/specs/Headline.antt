@@ -6,10 +6,13 @@ use Rattle.answers.specs.Inputs.{DumpsAreAnswered, LibrariesAreAnswered, LoadFil
 use Rattle.source_meaning.specs.ObjectLaws.{OneObject, NoFaultBeside, NoneUnanswered, ObjectIsFile}
 use Rattle.link_meaning.specs.EmitFaults.{OneLinkAnswer}
 use Rattle.link_laws.specs.ReadBack.{ExportsAreReadBack, PathsAreReadBack}
-use Rattle.link_laws.specs.Parts.{PartsAreOfTheFile}
+use Rattle.link_laws.specs.Formulas.{FormulasAreSpelled, SpelledIsFound}
+use Rattle.link_laws.specs.Pages.{PatchesAreByPages}
+use Rattle.link_laws.specs.Parts.{OutsideIsCalled, PartsAreOfTheFile}
 use Rattle.link_meaning.specs.LinkLoadable.{StandsForLinkedCells, OnlyCallsReachDynamic, IsLoadedWhereNoneSkipped}
 use Rattle.loader_agrees.specs.StepsOnce.{StepsOnce}
 use Rattle.dump_lines.specs.Listing.{IsListing}
+use Rattle.list_laws.specs.ListingLaws.{ListingIsListedAgain, ListingIsOne}
 use Rattle.omf_cli.specs.Loads.{LinkedFilesBegin}
 
 -- a file has one listing at most
@@ -25,8 +28,13 @@ pub record Headline : Type 0 where
   pub linked : OneLinkAnswer
   -- the segments of the load file, read back, have the headers of the layout and the linked cells
   pub stands_for : StandsForLinkedCells
-  -- of another dynamic segment nothing but a call through the jump table names a place, and no cell names a place in another file
-  pub reached : OnlyCallsReachDynamic × PartsAreOfTheFile
+  -- of another dynamic segment nothing but a call through the jump table names a place, no cell names a place in another file, and one there
+  -- is reached by a call alone
+  pub reached : OnlyCallsReachDynamic × PartsAreOfTheFile × OutsideIsCalled
+  -- each formula of the linked list spells one tree, the one from which its value is found
+  pub spelled : SpelledIsFound × FormulasAreSpelled
+  -- the patches of a SUPER record are at the locations of its pages
+  pub patched : PatchesAreByPages
   -- its exports, read back, are the public definitions of a run-time library file, and its rows are the given paths
   pub named : ExportsAreReadBack × PathsAreReadBack
   -- where nothing in it names a skipped segment it is a load file
@@ -36,6 +44,8 @@ pub record Headline : Type 0 where
   -- a command of a script has one reply and one next state at most
   pub answered : StepsOnce
   pub listed : OneListing
+  -- a file has one source at most, which is that of the object that is assembled from it
+  pub sourced : ListingIsOne × ListingIsListedAgain
   -- every input has an answer, which isn't Memory: a source not none of the two, and constructively all others
   pub has_object : NoneUnanswered
   pub has_link : LinksAreAnswered

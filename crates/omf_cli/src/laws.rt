@@ -8,10 +8,13 @@ use answers::{
     commands_are_answered, dumps_are_answered, libraries_are_answered, links_are_answered,
     load_files_are_compacted, scripts_are_answered, sources_are_listed,
 };
-use link_laws::{linked_names_are_read_back, parts_are_of_the_file};
+use link_laws::{
+    formulas_are_spelled, linked_names_are_read_back, parts_are_of_the_file, patches_are_by_pages,
+};
 use link_meaning::{
     files_have_one_answer, linked_files_are_loaded, linked_files_have_their_headers_and_cells,
 };
+use list_laws::{files_have_one_listing, listings_are_read_again};
 use loader_agrees::commands_have_one_reply;
 use omf_records::files_are_read_in_one_way;
 use source_meaning::{objects_are_files, sources_have_one_object};
@@ -33,8 +36,8 @@ pub fn linked_files_begin()
 {}
 
 /// The headline: a source has one object at most, which is a file; files have one load file or one first fault at most; the load file
-/// represents the linked cells, and its load begins a program; a command has one reply at most; a file has one listing at most. And each
-/// of these inputs has an answer, which isn't Memory.
+/// represents the linked cells, and its load begins a program; a command has one reply at most; a file has one listing and one source at
+/// most, and the object that is assembled from that source has it too. And each of these inputs has an answer, which isn't Memory.
 pub fn headline()
     ensures { Headline }
 {
@@ -48,6 +51,10 @@ pub fn headline()
     files_are_read_in_one_way();
     linked_names_are_read_back();
     parts_are_of_the_file();
+    formulas_are_spelled();
+    patches_are_by_pages();
+    files_have_one_listing();
+    listings_are_read_again();
     links_are_answered();
     libraries_are_answered();
     dumps_are_answered();

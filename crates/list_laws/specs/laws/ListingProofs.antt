@@ -1,7 +1,8 @@
 -- A listing is assembled to segments that represent the same.
-use Rattle.std.proofs.Common.{◌≡◌, ℕ, ◌+◌, Bool, true, false, List, [], ◌∷◌, ◌++◌, length, map, None, Ok, refl, sym, ap, subst, ◌∙◌, arith, append-nil, leb}
+use Rattle.std.proofs.Common.{◌≡◌, ℕ, ◌+◌, ◌≤◌, Bool, true, false, List, [], ◌∷◌, ◌++◌, length, map, None, Ok, refl, sym, ap, subst, ◌∙◌, arith, append-nil, leb}
+use Rattle.std.specs.Prelude.{nat_le}
 use Rattle.std.specs.List.{AllByRecursion, flat_map}
-use Rattle.std.proofs.lemmas.Bool.{leb-true, leb-false}
+use Rattle.std.proofs.lemmas.Bool.{leb-true, leb-false, and_parts}
 use Rattle.std.proofs.lemmas.List.{map-append}
 use Rattle.std.proofs.lemmas.List.Concat.{flat_map-cons, flat_map-append}
 use Rattle.omf_format.specs.Number.{IsBytes}
@@ -15,6 +16,7 @@ use Rattle.asm_meaning.specs.Object.{AreSteps, object_text, most_bytes}
 use Rattle.source_meaning.specs.Object.{HasLines, InLength}
 use Rattle.asm_meaning.specs.ObjectFile.{IsReadAs, AreReadAs}
 use Rattle.source_meaning.specs.laws.ObjectFileProofs.{object_is_file}
+use Rattle.macro_meaning.specs.laws.ExpansionProofs.{one_expansion}
 use Rattle.asm_meaning.specs.Answer.{Answer}
 use Rattle.asm_meaning.specs.State.{State, FinishedSegment, start}
 use Rattle.asm_meaning.specs.Statement.{IsStep}
@@ -23,12 +25,13 @@ use Rattle.list_laws.specs.Given.{IsLeft}
 use Rattle.list_meaning.specs.Listed.{ListedStatement, said_text, listing_text}
 use Rattle.list_meaning.specs.Listing.{listing_from}
 use Rattle.list_laws.specs.Flat.{zeros, places_from, contents_of, flat, FlatDefinition, comparable_definition, definitions, used_by, asked_by, AreAlike, AreAllAlike}
-use Rattle.list_laws.specs.ListingLaws.{IsReadAgain, Whole, TooLong, ListingIsReadAgain, LineIsRead}
+use Rattle.list_laws.specs.ListingLaws.{IsReadAgain, Whole, TooLong, ListingIsReadAgain, LineIsRead, ListingIsListedAgain}
 use Rattle.list_laws.specs.laws.WholeLaw.{text_expands}
 use Rattle.list_laws.specs.laws.After.{Leads, leads_steps}
 use Rattle.list_laws.specs.laws.Content.{defs_at, defs_from, defs_from-append, places_from-append}
 use Rattle.list_laws.specs.laws.ReadFacts.{IsReadSegment, segment_read}
-use Rattle.list_laws.specs.laws.SegmentLines.{Ready, IsEndedAs, AreEndedAs, FileRan, file_runs}
+use Rattle.list_laws.specs.laws.SegmentLines.{Ready, IsEndedAs, AreEndedAs, AreSaidAgain, FileRan, file_runs}
+use Rattle.list_laws.specs.laws.ListedAgain.{AreSpaced, file_listed}
 
 -- ---- definitions
 
@@ -172,3 +175,43 @@ pub line_is_read : LineIsRead
 line_is_read file segments before following said state fits is listed steps =
     let ran = file_leads file segments (before ++ said ∷ following) fits is listed in
     line_left start ran.last state 1 before following said ran.leads steps
+
+-- ---- the listing of the object
+
+steps_same : (state : State) (lines : List Line) (a b : State) → AreSteps state lines a → AreSteps state lines b → a ≡ b
+steps_same state [] a b p q = sym p ∙ q
+steps_same state (line ∷ lines) a b p q =
+    steps_same p.0 lines a b p.2 (subst (λ (s : State). AreSteps s lines b) (sym (next_same state line p.0 q.0 p.1 q.1)) q.2)
+
+last_same : (text : List ℕ) (a b : State) → HasLines text [] a → HasLines text [] b → a ≡ b
+last_same text a b p q = steps_same start p.lines a b p.steps (subst (λ (l : List Line). AreSteps start l b) (sym (one_expansion text [] p.lines q.lines p.expanded q.expanded)) q.steps)
+
+spaced_of : (s o : Segment) (e : FinishedSegment) → IsEndedAs s e → IsReadAs e o → o.fields.res_spc ≡ 0
+spaced_of s o e is read = ap (λ (f : HeaderFields). f.res_spc) read.fields ∙ is.spaced
+
+all_spaced : (segments others : List Segment) (ended : List FinishedSegment) → AreEndedAs segments ended → AreReadAs ended others → AreSpaced others
+all_spaced segments [] ended are read = tt
+all_spaced [] (o ∷ others) [] are read = absurd read
+all_spaced [] (o ∷ others) (e ∷ ended) are read = absurd are
+all_spaced (s ∷ segments) (o ∷ others) [] are read = absurd are
+all_spaced (s ∷ segments) (o ∷ others) (e ∷ ended) are read = (spaced_of s o e are.0 read.0, all_spaced segments others ended are.1 read.1)
+
+pub listed_again : ListingIsListedAgain
+listed_again file text object fits p q =
+    let ran = file_leads file p.segments p.all fits p.is_file p.lines in
+    let few = leb-true (length p.all) 65536 (and_parts (nat_le (length p.all) 65536) (nat_le (length (listing_text p.all)) 16777216) p.small).0 in
+    let has : HasLines (listing_text p.all) [] ran.last = record { lines = numbered_lines 0 1 (map said_text p.all); expanded = text_expands p.all ran.said few; steps = leads_steps start ran.last 1 p.all ran.leads } in
+    let same : q.last ≡ ran.last = last_same (listing_text p.all) q.last ran.last (subst (λ (t : List ℕ). HasLines t [] q.last) p.is q.has) has in
+    let ended : ran.more ≡ q.last.ended = sym (ap (λ (x : State). x.ended) same ∙ ran.ready.ended_is) in
+    let short : length (object_text q.last.ended) ≤ most_bytes = subst (λ (t : List ℕ). length t ≤ most_bytes) q.text q.fits in
+    let made = object_is_file text [] q.last q.has short in
+    let are : AreEndedAs p.segments q.last.ended = subst (AreEndedAs p.segments) ended ran.are in
+    let said : AreSaidAgain p.segments q.last.ended p.all = subst (λ (e : List FinishedSegment). AreSaidAgain p.segments e p.all) ended ran.again in
+    record {
+      segments = made.0;
+      is_file = subst (IsFile made.0) (sym q.text) made.1;
+      all = p.all;
+      lines = file_listed 1 p.segments made.0 q.last.ended p.all said made.2 (all_alike p.segments made.0 q.last.ended are made.2) (all_spaced p.segments made.0 q.last.ended are made.2);
+      small = p.small;
+      is = p.is;
+    }

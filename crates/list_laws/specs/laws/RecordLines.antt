@@ -28,7 +28,7 @@ use Rattle.asm_meaning.specs.laws.PieceLaws.{all-append}
 use Rattle.list_meaning.specs.Listed as listed
 use Rattle.list_meaning.specs.Listed.{ListedStatement, Aligns, OrgIs, Ds, UsingIs, StrongIs, Labels, Equates, Instructs, WeakIs, FormulaIs, Wanted, Moved}
 use Rattle.list_meaning.specs.Listing as listing
-use Rattle.list_meaning.specs.Listing.{PendingRun, Given, instruction_of_opcode, said_rest, widths_rest, is_listable, is_among, simple_of, weak_of, record_by, is_record, with_run_written, then_said, with_name, split_last, dc_of_formula, formula_given, formula_listable, term_listable, term_may_stand, is_open, both_long, if_short, number_of, equate_given, given_by}
+use Rattle.list_meaning.specs.Listing.{PendingRun, Given, instruction_of_opcode, said_rest, widths_rest, is_listable, is_among, simple_of, weak_of, record_by, is_record, with_run_written, then_said, with_name, split_last, dc_of_formula, formula_given, formula_listable, term_listable, term_may_stand, is_open, both_long, if_short, number_of, equate_given, equate_name, given_by}
 use Rattle.list_meaning.specs.laws.Steps.{after_byte, held_back, follows_opcode, are_short, on_tree, expr_listable, is_held}
 use Rattle.list_laws.specs.Flat.{parts_from, respelled, text_or}
 use Rattle.list_laws.specs.Given.{records_said, name_said, widths_said, code_of, tree_of}
@@ -43,6 +43,7 @@ use Rattle.list_laws.specs.laws.LineGives.{IsInstruction}
 use Rattle.list_laws.specs.laws.RunGives.{IsConst, Runs, rest_runs}
 use Rattle.list_laws.specs.laws.After.{KnowsOnly, given, widths_after, names_after, given-append, widths_after-append, names_after-append, IsFine, AreFine, AreFine-append}
 use Rattle.list_laws.specs.laws.Content.{IsLike, SameAt, same_const, same_long, same_line}
+use Rattle.list_laws.specs.laws.Again.{if_parts, if_again, IsWrittenAs, GivesAgain, AreSaid, without_run, said_line, one_equate}
 
 -- ---- what the lines of a record do
 
@@ -53,6 +54,8 @@ pub record IsPut (f : HeaderFields) (equates : List (List ℕ)) (b : PendingRun)
   pub names : names_after b.names g.0 ≡ g.1.names
   pub bytes : AreBytes g.1.run
   pub same : (at : ℕ) → SameAt f.lab_len at b.run r (given b.widths g.0) g.1.run
+  pub again : (h : HeaderFields) → IsWrittenAs f h → AreSaid h equates (without_run b) (given b.widths g.0) g.0 (without_run g.1)
+  pub same_equates : equate_name r ≡ flat_map equate_name (given b.widths g.0)
 
 abbrev pub widths_at : PendingRun → Widths
 widths_at b = widths_rest b.widths 0 b.run
@@ -60,8 +63,9 @@ widths_at b = widths_rest b.widths 0 b.run
 -- the lines of the run and one more, which represents one record
 put_line : (f : HeaderFields) (equates : List (List ℕ)) (b : PendingRun) (r x : Record) (said : ListedStatement) (names : List (List ℕ)) → AreBytes b.run
     → IsFine equates f.align b.names (widths_at b) said → records_said (widths_at b) said ≡ x ∷ [] → widths_said said (widths_at b) ≡ widths_at b → name_said said ++ b.names ≡ names
-    → IsLike f.lab_len r x → IsPut f equates b r (said_rest b.widths 0 b.run ++ said ∷ [], record { widths = widths_at b; run = []; names = names })
-put_line f equates b r x said names are fine gives same_widths same_names like =
+    → IsLike f.lab_len r x → equate_name r ≡ equate_name x → GivesAgain f equates b x (said_rest b.widths 0 b.run ++ said ∷ [], record { widths = widths_at b; run = []; names = names })
+    → IsPut f equates b r (said_rest b.widths 0 b.run ++ said ∷ [], record { widths = widths_at b; run = []; names = names })
+put_line f equates b r x said names are fine gives same_widths same_names like equated again =
     let lines = said_rest b.widths 0 b.run in
     let v = widths_at b in
     let runs : Runs equates f.align b.names b.widths v lines b.run = rest_runs equates f.align b.names b.widths 0 b.run are in
@@ -75,14 +79,18 @@ put_line f equates b r x said names are fine gives same_widths same_names like =
       names = names_after-append b.names lines (said ∷ []) ∙ ap (λ (n : List (List ℕ)). name_said said ++ n) runs.same_names ∙ same_names;
       bytes = tt;
       same = λ at. subst (λ (l : List Record). SameAt f.lab_len at b.run r l []) (sym whole) (same_line f.lab_len at b.run r x (given b.widths lines) runs.consts runs.bytes_given like);
+      again = λ h written. subst (λ (l : List Record). AreSaid h equates (without_run b) l (lines ++ said ∷ []) (record { widths = v; run = []; names = names })) (sym whole)
+          (said_line h equates b (given b.widths lines) x (lines ++ said ∷ [], record { widths = v; run = []; names = names }) runs.consts runs.bytes_given (again h written));
+      same_equates = equated ∙ sym (ap (flat_map equate_name) whole ∙ one_equate (given b.widths lines) x runs.consts);
     }
 
 -- a byte of the run that is held back, and its record
 put_held : (f : HeaderFields) (equates : List (List ℕ)) (b : PendingRun) (r x : Record) (front : List ℕ) (k : ℕ) (said : ListedStatement) → AreBytes front → b.run ≡ front ++ k ∷ []
     → IsFine equates f.align b.names (widths_rest b.widths 0 front) said → records_said (widths_rest b.widths 0 front) said ≡ Const (k ∷ []) ∷ x ∷ []
     → widths_said said (widths_rest b.widths 0 front) ≡ widths_rest b.widths 0 front → name_said said ≡ []
-    → IsLike f.lab_len r x → IsPut f equates b r (said_rest b.widths 0 front ++ said ∷ [], record { widths = widths_rest b.widths 0 front; run = []; names = b.names })
-put_held f equates b r x front k said are parts fine gives same_widths no_name like =
+    → IsLike f.lab_len r x → equate_name r ≡ equate_name x → GivesAgain f equates b x (said_rest b.widths 0 front ++ said ∷ [], record { widths = widths_rest b.widths 0 front; run = []; names = b.names })
+    → IsPut f equates b r (said_rest b.widths 0 front ++ said ∷ [], record { widths = widths_rest b.widths 0 front; run = []; names = b.names })
+put_held f equates b r x front k said are parts fine gives same_widths no_name like equated again =
     let lines = said_rest b.widths 0 front in
     let v = widths_rest b.widths 0 front in
     let runs : Runs equates f.align b.names b.widths v lines front = rest_runs equates f.align b.names b.widths 0 front are in
@@ -103,30 +111,22 @@ put_held f equates b r x front k said are parts fine gives same_widths no_name l
       names = names_after-append b.names lines (said ∷ []) ∙ ap (λ (n : List (List ℕ)). name_said said ++ n) runs.same_names ∙ ap (λ (n : List (List ℕ)). n ++ b.names) no_name;
       bytes = tt;
       same = λ at. subst (λ (l : List Record). SameAt f.lab_len at b.run r l []) (sym whole) (same_line f.lab_len at b.run r x h consts bytes like);
+      again = λ f' written. subst (λ (l : List Record). AreSaid f' equates (without_run b) l (lines ++ said ∷ []) (record { widths = v; run = []; names = b.names })) (sym whole)
+          (said_line f' equates b h x (lines ++ said ∷ [], record { widths = v; run = []; names = b.names }) consts bytes (again f' written));
+      same_equates = equated ∙ sym (ap (flat_map equate_name) whole ∙ one_equate h x consts);
     }
 
 -- ---- an answer's parts
-
-if_parts : (holds : Bool) (g given : Given) → if_short holds g ≡ Some given → (holds ≡ true) × (are_short g ≡ true) × (g ≡ given)
-if_parts holds g given is = by holds (are_short g) refl refl is
-  where
-    by : (a b : Bool) → holds ≡ a → are_short g ≡ b → cond (a && b) (Some g) None ≡ Some given → (holds ≡ true) × (are_short g ≡ true) × (g ≡ given)
-    by true true p q e = (p, q, some_is g given e)
-      where
-        some_is : (x y : Given) → Some x ≡ Some y → x ≡ y
-        some_is x y e = cc
-    by true false p q e = absurd cc
-    by false b p q e = absurd cc
 
 -- a record's lines are short, and put
 pub record IsGiven (f : HeaderFields) (equates : List (List ℕ)) (b : PendingRun) (r : Record) (g : Given) : Type 0 where
   pub short : are_short g ≡ true
   pub put : IsPut f equates b r g
 
-given_as : (f : HeaderFields) (equates : List (List ℕ)) (b : PendingRun) (r : Record) (holds : Bool) (g given : Given) → (holds ≡ true → IsPut f equates b r g) → if_short holds g ≡ Some given → IsGiven f equates b r given
+given_as : (f : HeaderFields) (equates : List (List ℕ)) (b : PendingRun) (r : Record) (holds : Bool) (g given : Given) → (holds ≡ true → are_short g ≡ true → IsPut f equates b r g) → if_short holds g ≡ Some given → IsGiven f equates b r given
 given_as f equates b r holds g given puts is =
     let parts = if_parts holds g given is in
-    subst (IsGiven f equates b r) parts.2 (record { short = parts.1; put = puts parts.0 })
+    subst (IsGiven f equates b r) parts.2 (record { short = parts.1; put = puts parts.0 parts.1 })
 
 -- ---- expression records
 
@@ -266,8 +266,8 @@ distance_none code n e is = subst (λ (k : ℕ). IsDistance (eqb k 0xEE) n) (eqb
 -- the opcode is held back
 held_put : (f : HeaderFields) (equates : List (List ℕ)) (b : PendingRun) (code count n : ℕ) (expr : List ℕ) (t : Tree) (found : List ℕ × ℕ) (w : Wanted) → f.lab_len ≤ 255 → IsTree f.lab_len t → depth t ≤ 64
     → tree_in f.lab_len expr ≡ Some t → list_all (term_listable equates) (terms_of t) ≡ true → AreBytes b.run → split_last b.run ≡ Some found → simple_of t ≡ Some w → is_held b code count n found ≡ true
-    → IsPut f equates b (records.Formula code count n expr) (held_back b found.0 found.1 w)
-held_put f equates b code count n expr t found w low formed shallow there names are split simple held =
+    → GivesAgain f equates b (records.Formula code count n (expression_text t)) (held_back b found.0 found.1 w) → IsPut f equates b (records.Formula code count n expr) (held_back b found.0 found.1 w)
+held_put f equates b code count n expr t found w low formed shallow there names are split simple held again =
     let parts = split_is b.run found split in
     let fits = front_bytes found.0 found.1 (subst AreBytes parts are) in
     let v = widths_rest b.widths 0 found.0 in
@@ -281,7 +281,7 @@ held_put f equates b code count n expr t found w low formed shallow there names 
     is.held v m way ∙ ap (λ (k : ℕ). Const (k ∷ []) ∷ operand_record m (kind_of way) (operand_bytes v m way) t ∷ []) back
     ∙ ap (λ (r : Record). Const (found.1 ∷ []) ∷ r ∷ []) (record_is m (kind_of way) (operand_bytes v m way) code count n t held) in
     put_held f equates b (records.Formula code count n expr) (records.Formula code count n (expression_text t)) found.0 found.1 (Instructs m way w) fits.0 parts
-    (λ constants knows. fits_name constants m way w matrix_is takes is.named (is.unknown constants knows)) gives refl refl (like_formula f.lab_len code count n expr t low formed shallow there)
+    (λ constants knows. fits_name constants m way w matrix_is takes is.named (is.unknown constants knows)) gives refl refl (like_formula f.lab_len code count n expr t low formed shallow there) refl again
   where
     fits_name : (constants : Constants) (m : Mnemonic) (way : Mode) (w : Wanted) → slice_get matrix (opcode_in m way) ≡ Some (m, way) → TakesName way → HasName w → IsUnknown constants w
         → IsInstruction constants (widths_rest b.widths 0 found.0) m way w
@@ -294,10 +294,16 @@ held_put f equates b code count n expr t found w low formed shallow there names 
 -- DC A or DC S
 apart_put : (f : HeaderFields) (equates : List (List ℕ)) (b : PendingRun) (code count n : ℕ) (expr : List ℕ) (t : Tree) → f.lab_len ≤ 255 → IsTree f.lab_len t → depth t ≤ 64 → tree_in f.lab_len expr ≡ Some t
     → IsCount count → eqb code 0xEB ≡ true → n ≡ 0 → list_all (term_listable equates) (terms_of t) ≡ true → expr_listable count t ≡ true → AreBytes b.run
+    → GivesAgain f equates b (records.Formula code count n (expression_text t)) (then_said (dc_of_formula count t (weak_of t) ∷ []) (with_run_written b))
     → IsPut f equates b (records.Formula code count n expr) (then_said (dc_of_formula count t (weak_of t) ∷ []) (with_run_written b))
 unfolding weak_of
-apart_put f equates b code count n expr t low formed shallow there counted is_expr none names may are = by (weak_of t) refl may
+apart_put f equates b code count n expr t low formed shallow there counted is_expr none names may are again' = by (weak_of t) refl may again'
   where
+    plain : (g : Given) → GivesAgain f equates b (records.Formula code count n (expression_text t)) g → GivesAgain f equates b (records.Formula 0xEB count 0 (expression_text t)) g
+    plain g again =
+        subst (λ (c : ℕ). GivesAgain f equates b (records.Formula c count 0 (expression_text t)) g) (eqb-true code 0xEB is_expr)
+        (subst (λ (k : ℕ). GivesAgain f equates b (records.Formula code count k (expression_text t)) g) none again)
+
     like : IsLike f.lab_len (records.Formula code count n expr) (records.Formula 0xEB count 0 (expression_text t))
     like = subst (λ (c : ℕ). IsLike f.lab_len (records.Formula c count n expr) (records.Formula 0xEB count 0 (expression_text t))) (sym (eqb-true code 0xEB is_expr))
         (subst (λ (k : ℕ). IsLike f.lab_len (records.Formula 0xEB count k expr) (records.Formula 0xEB count 0 (expression_text t))) (sym none)
@@ -305,17 +311,18 @@ apart_put f equates b code count n expr t low formed shallow there counted is_ex
 
     by : (o : Option (List ℕ)) → weak_of t ≡ o
         → cond (is_some o) (eqb count 2) (list_all term_may_stand (terms_of t) && list_any is_open (terms_of t)) ≡ true
+        → GivesAgain f equates b (records.Formula code count n (expression_text t)) (then_said (dc_of_formula count t o ∷ []) (with_run_written b))
         → IsPut f equates b (records.Formula code count n expr) (then_said (dc_of_formula count t o ∷ []) (with_run_written b))
-    by None weak may =
+    by None weak may again =
         let both = and_parts (list_all term_may_stand (terms_of t)) (list_any is_open (terms_of t)) may in
         let can = can_write f.lab_len equates t formed both.0 names in
         put_line f equates b (records.Formula code count n expr) (records.Formula 0xEB count 0 (expression_text t)) (FormulaIs count t) b.names are
-        (counted, can.write, can.unknown, sym (open_is t) ∙ both.1, subst (λ (k : ℕ). k ≤ 64) (sym (pending_is t)) shallow) refl refl refl like
-    by (Some name) weak may =
+        (counted, can.write, can.unknown, sym (open_is t) ∙ both.1, subst (λ (k : ℕ). k ≤ 64) (sym (pending_is t)) shallow) refl refl refl like refl (plain (then_said (FormulaIs count t ∷ []) (with_run_written b)) again)
+    by (Some name) weak may again =
         let two = eqb-true count 2 may in
         let is = weak_is t name names weak in
         put_line f equates b (records.Formula code count n expr) (records.Formula 0xEB count 0 (expression_text t)) (WeakIs name) b.names are is.1
-        (ap (λ (u : Tree). records.Formula 0xEB 2 0 (expression_text u) ∷ []) (sym is.0) ∙ ap (λ (k : ℕ). records.Formula 0xEB k 0 (expression_text t) ∷ []) (sym two)) refl refl like
+        (ap (λ (u : Tree). records.Formula 0xEB 2 0 (expression_text u) ∷ []) (sym is.0) ∙ ap (λ (k : ℕ). records.Formula 0xEB k 0 (expression_text t) ∷ []) (sym two)) refl refl like refl (plain (then_said (WeakIs name ∷ []) (with_run_written b)) again)
       where
         some_name : (a b : List ℕ) → Some a ≡ Some b → a ≡ b
         some_name a b e = cc
@@ -334,34 +341,39 @@ apart_put f equates b code count n expr t low formed shallow there counted is_ex
 -- all expression records
 formula_put : (f : HeaderFields) (equates : List (List ℕ)) (b : PendingRun) (code count n : ℕ) (expr : List ℕ) (t : Tree) → f.lab_len ≤ 255 → IsTree f.lab_len t → depth t ≤ 64 → tree_in f.lab_len expr ≡ Some t
     → IsCount count → IsDistance (eqb code 0xEE) n → AreBytes b.run → formula_listable equates b code count n t ≡ true
+    → GivesAgain f equates b (records.Formula code count n (expression_text t)) (formula_given b code count n t (split_last b.run) (simple_of t))
     → IsPut f equates b (records.Formula code count n expr) (formula_given b code count n t (split_last b.run) (simple_of t))
 unfolding formula_listable formula_given
-formula_put f equates b code count n expr t low formed shallow there counted distance are may =
+formula_put f equates b code count n expr t low formed shallow there counted distance are may again' =
     let both = and_parts (list_all (term_listable equates) (terms_of t))
     (cond (eqb code 0xEB) (expr_listable count t) (is_some (simple_of t) && follows_opcode code count n (split_last b.run))) may in
-    by (eqb code 0xEB) (split_last b.run) (simple_of t) refl refl refl both.0 both.1
+    by (eqb code 0xEB) (split_last b.run) (simple_of t) refl refl refl both.0 both.1 again'
   where
-    aside : eqb code 0xEB ≡ true → list_all (term_listable equates) (terms_of t) ≡ true → expr_listable count t ≡ true
+    Gives : Given → Type 0
+    Gives g = GivesAgain f equates b (records.Formula code count n (expression_text t)) g
+
+    aside : eqb code 0xEB ≡ true → list_all (term_listable equates) (terms_of t) ≡ true → expr_listable count t ≡ true → Gives (then_said (dc_of_formula count t (weak_of t) ∷ []) (with_run_written b))
         → IsPut f equates b (records.Formula code count n expr) (then_said (dc_of_formula count t (weak_of t) ∷ []) (with_run_written b))
-    aside e names may = apart_put f equates b code count n expr t low formed shallow there counted e (distance_none code n e distance) names may are
+    aside e names may again = apart_put f equates b code count n expr t low formed shallow there counted e (distance_none code n e distance) names may are again
 
     by_held : (c : Bool) (found : List ℕ × ℕ) (w : Wanted) → eqb code 0xEB ≡ c → split_last b.run ≡ Some found → simple_of t ≡ Some w → list_all (term_listable equates) (terms_of t) ≡ true
         → cond c (expr_listable count t) (true && is_record code count n (listing.record_of_opcode both_long found.1)) ≡ true → (h : Bool) → is_held b code count n found ≡ h
+        → Gives (cond h (held_back b found.0 found.1 w) (then_said (dc_of_formula count t (weak_of t) ∷ []) (with_run_written b)))
         → IsPut f equates b (records.Formula code count n expr) (cond h (held_back b found.0 found.1 w) (then_said (dc_of_formula count t (weak_of t) ∷ []) (with_run_written b)))
-    by_held c found w e split simple names may true held = held_put f equates b code count n expr t found w low formed shallow there names are split simple held
-    by_held true found w e split simple names may false held = aside e names may
-    by_held false found w e split simple names may false held =
+    by_held c found w e split simple names may true held again = held_put f equates b code count n expr t found w low formed shallow there names are split simple held again
+    by_held true found w e split simple names may false held again = aside e names may again
+    by_held false found w e split simple names may false held again =
         let same = same_at_widths (widths_rest b.widths 0 found.0) both_long (instruction_of_opcode found.1).0 (instruction_of_opcode found.1).1 code count n e in
         let clash : false ≡ true = sym held ∙ same ∙ may in absurd cc
 
     by : (c : Bool) (s : Option (List ℕ × ℕ)) (w : Option Wanted) → eqb code 0xEB ≡ c → split_last b.run ≡ s → simple_of t ≡ w → list_all (term_listable equates) (terms_of t) ≡ true
-        → cond c (expr_listable count t) (is_some w && follows_opcode code count n s) ≡ true → IsPut f equates b (records.Formula code count n expr) (formula_given b code count n t s w)
-    by c (Some found) (Some w) e split simple names may = by_held c found w e split simple names may (is_held b code count n found) refl
-    by true (Some found) None e split simple names may = aside e names may
-    by false (Some found) None e split simple names may = absurd cc
-    by true None w e split simple names may = aside e names may
-    by false None None e split simple names may = absurd cc
-    by false None (Some w) e split simple names may = absurd cc
+        → cond c (expr_listable count t) (is_some w && follows_opcode code count n s) ≡ true → Gives (formula_given b code count n t s w) → IsPut f equates b (records.Formula code count n expr) (formula_given b code count n t s w)
+    by c (Some found) (Some w) e split simple names may again = by_held c found w e split simple names may (is_held b code count n found) refl again
+    by true (Some found) None e split simple names may again = aside e names may again
+    by false (Some found) None e split simple names may again = absurd cc
+    by true None w e split simple names may again = aside e names may again
+    by false None None e split simple names may again = absurd cc
+    by false None (Some w) e split simple names may again = absurd cc
 
 -- ---- each record
 
@@ -379,6 +391,10 @@ append_bytes (byte ∷ a) b p q = (p.0, append_bytes a b p.1 q)
 some_given : (a b : Given) → Some a ≡ Some b → a ≡ b
 some_given a b e = cc
 
+or_true : (a : Bool) → (a || true) ≡ true
+or_true true = refl
+or_true false = refl
+
 private_zero : (global : Bool) (private : ℕ) → (not global || eqb private 0) ≡ true → scope_of global private ≡ scope_of global 0
 private_zero true private is = ap (scope_of true) (eqb-true private 0 is)
 private_zero false private is = refl
@@ -390,38 +406,45 @@ unfolding given_by
 record_given f equates b l records.End g same low is known are no_end gives = absurd cc
 record_given f equates b l (Const bytes) g same low is known are no_end gives =
     subst (IsGiven f equates b (Const bytes)) (some_given ([], record b { run = b.run ++ bytes }) g gives)
-    (record { short = refl; put = record { fine = tt; widths = refl; names = refl; bytes = append_bytes b.run bytes are known; same = λ at. same_const f.lab_len at b.run bytes } })
+    (record { short = refl; put = record { fine = tt; widths = refl; names = refl; bytes = append_bytes b.run bytes are known; same = λ at. same_const f.lab_len at b.run bytes; again = λ h written. (refl, refl); same_equates = refl } })
 record_given f equates b l (records.LongConst bytes) g same low is known are no_end gives =
     subst (IsGiven f equates b (records.LongConst bytes)) (some_given ([], record b { run = b.run ++ bytes }) g gives)
-    (record { short = refl; put = record { fine = tt; widths = refl; names = refl; bytes = append_bytes b.run bytes are known; same = λ at. same_long f.lab_len at b.run bytes } })
+    (record { short = refl; put = record { fine = tt; widths = refl; names = refl; bytes = append_bytes b.run bytes are known; same = λ at. same_long f.lab_len at b.run bytes; again = λ h written. (refl, refl); same_equates = refl } })
 record_given f equates b l (records.Align n) g same low is known are no_end gives =
     given_as f equates b (records.Align n) (is_power_of_two n && nat_le n 0x10000 && nat_le n (alignment_of f.align)) (then_said (Aligns n ∷ []) (with_run_written b)) g
-    (λ holds. let all = and_parts (is_power_of_two n && nat_le n 0x10000) (nat_le n (alignment_of f.align)) holds in
+    (λ holds short. let all = and_parts (is_power_of_two n && nat_le n 0x10000) (nat_le n (alignment_of f.align)) holds in
     let power = and_parts (is_power_of_two n) (nat_le n 0x10000) all.0 in
     put_line f equates b (records.Align n) (records.Align n) (Aligns n) b.names are (is, power.0, leb-true n (alignment_of f.align) all.1) refl refl refl
-    (record { places = λ p. refl; size = λ p. refl; defined = λ p. refl; using' = refl; strong = refl })) gives
+    (record { places = λ p. refl; size = λ p. refl; defined = λ p. refl; using' = refl; strong = refl }) refl
+    (λ h written. ap (λ (a : ℕ). if_short (is_power_of_two n && nat_le n 0x10000 && nat_le n (alignment_of a)) (then_said (Aligns n ∷ []) (with_run_written b))) written.align ∙ if_again (is_power_of_two n && nat_le n 0x10000 && nat_le n (alignment_of f.align)) (then_said (Aligns n ∷ []) (with_run_written b)) holds short)) gives
 record_given f equates b l (records.Org n) g same low is known are no_end gives =
     given_as f equates b (records.Org n) true (then_said (OrgIs n ∷ []) (with_run_written b)) g
-    (λ holds. put_line f equates b (records.Org n) (records.Org n) (OrgIs n) b.names are is refl refl refl
-    (record { places = λ p. refl; size = λ p. refl; defined = λ p. refl; using' = refl; strong = refl })) gives
+    (λ holds short. put_line f equates b (records.Org n) (records.Org n) (OrgIs n) b.names are is refl refl refl
+    (record { places = λ p. refl; size = λ p. refl; defined = λ p. refl; using' = refl; strong = refl }) refl
+    (λ h written. if_again true (then_said (OrgIs n ∷ []) (with_run_written b)) refl short)) gives
 record_given f equates b l (records.Space n) g same low is known are no_end gives =
     given_as f equates b (records.Space n) true (then_said (Ds n ∷ []) (with_run_written b)) g
-    (λ holds. put_line f equates b (records.Space n) (records.Space n) (Ds n) b.names are is refl refl refl
-    (record { places = λ p. refl; size = λ p. refl; defined = λ p. refl; using' = refl; strong = refl })) gives
+    (λ holds short. put_line f equates b (records.Space n) (records.Space n) (Ds n) b.names are is refl refl refl
+    (record { places = λ p. refl; size = λ p. refl; defined = λ p. refl; using' = refl; strong = refl }) refl
+    (λ h written. if_again true (then_said (Ds n ∷ []) (with_run_written b)) refl short)) gives
 record_given f equates b l (records.Using name) g same low is known are no_end gives =
     given_as f equates b (records.Using name) (is_listable name) (then_said (UsingIs name ∷ []) (with_run_written b)) g
-    (λ holds. put_line f equates b (records.Using name) (records.Using name) (UsingIs name) b.names are (plain_name name holds) refl refl refl
-    (record { places = λ p. refl; size = λ p. refl; defined = λ p. refl; using' = refl; strong = refl })) gives
+    (λ holds short. put_line f equates b (records.Using name) (records.Using name) (UsingIs name) b.names are (plain_name name holds) refl refl refl
+    (record { places = λ p. refl; size = λ p. refl; defined = λ p. refl; using' = refl; strong = refl }) refl
+    (λ h written. if_again (is_listable name) (then_said (UsingIs name ∷ []) (with_run_written b)) holds short)) gives
 record_given f equates b l (records.Strong name) g same low is known are no_end gives =
     given_as f equates b (records.Strong name) (is_listable name) (then_said (StrongIs name ∷ []) (with_run_written b)) g
-    (λ holds. put_line f equates b (records.Strong name) (records.Strong name) (StrongIs name) b.names are (plain_name name holds) refl refl refl
-    (record { places = λ p. refl; size = λ p. refl; defined = λ p. refl; using' = refl; strong = refl })) gives
+    (λ holds short. put_line f equates b (records.Strong name) (records.Strong name) (StrongIs name) b.names are (plain_name name holds) refl refl refl
+    (record { places = λ p. refl; size = λ p. refl; defined = λ p. refl; using' = refl; strong = refl }) refl
+    (λ h written. if_again (is_listable name) (then_said (StrongIs name ∷ []) (with_run_written b)) holds short)) gives
 record_given f equates b l (records.Label global name size form private) g same low is known are no_end gives =
     given_as f equates b (records.Label global name size form private) ((not global || private == 0) && is_listable name && not (is_among b.names name)) (with_name name (then_said (Labels global name ∷ []) (with_run_written b))) g
-    (λ holds. let all = and_parts ((not global || private == 0) && is_listable name) (not (is_among b.names name)) holds in
+    (λ holds short. let all = and_parts ((not global || private == 0) && is_listable name) (not (is_among b.names name)) holds in
     let front = and_parts (not global || private == 0) (is_listable name) all.0 in
     put_line f equates b (records.Label global name size form private) (records.Label global name 0 0x4E 0) (Labels global name) (name ∷ b.names) are (plain_name name front.1, not-true (is_among b.names name) all.1) refl refl refl
-    (record { places = λ p. refl; size = λ p. refl; defined = λ p. ap (λ (s : Scope). record { name = name; scope = s; place = p; value = None } ∷ []) (private_zero global private front.0); using' = refl; strong = refl })) gives
+    (record { places = λ p. refl; size = λ p. refl; defined = λ p. ap (λ (s : Scope). record { name = name; scope = s; place = p; value = None } ∷ []) (private_zero global private front.0); using' = refl; strong = refl }) refl
+    (λ h written. if_again ((not global || true) && is_listable name && not (is_among b.names name)) (with_name name (then_said (Labels global name ∷ []) (with_run_written b)))
+    (ap (λ (x : Bool). x && is_listable name && not (is_among b.names name)) (or_true (not global)) ∙ ap (λ (x : Bool). x && not (is_among b.names name)) front.1 ∙ all.1) short)) gives
 record_given f equates b l (records.Equate global name size form private expr) g same low is known are no_end gives = by (not global || eqb private 0) refl gives
   where
     spelled : IsExpression f.lab_len expr
@@ -444,7 +467,7 @@ record_given f equates b l (records.Equate global name size form private expr) g
         let value : tree_in f.lab_len expr ≡ tree_in 0 (expression_text (Leaf (expression.Constant n))) =
         there ∙ ap (λ (t : Tree). Some t) number.0 ∙ sym (tree_back 0 (Leaf (expression.Constant n)) (omega arith) number.1 (omega arith)) in
         given_as f equates b (records.Equate global name size form private expr) (is_listable name && not (is_among b.names name)) (with_name name (then_said (Equates global name n ∷ []) (with_run_written b))) g
-        (λ holds. let all = and_parts (is_listable name) (not (is_among b.names name)) holds in
+        (λ holds short. let all = and_parts (is_listable name) (not (is_among b.names name)) holds in
         put_line f equates b (records.Equate global name size form private expr) (records.Equate global name 0 0x4E 0 (expression_text (Leaf (expression.Constant n)))) (Equates global name n) (name ∷ b.names) are
         ((plain_name name all.0, not-true (is_among b.names name) all.1), number.1, known) refl refl refl (record {
           places = λ p. refl;
@@ -453,7 +476,10 @@ record_given f equates b l (records.Equate global name size form private expr) g
               ∙ ap (λ (v : Option Tree). record { name = name; scope = scope_of global 0; place = p; value = v } ∷ []) value;
           using' = refl;
           strong = refl;
-        })) gives
+        }) refl (λ h written. ap (λ (x : Bool). cond x (on_tree (tree_in h.lab_len (expression_text (Leaf (expression.Constant n)))) (λ tree. equate_given b global name (number_of tree))) None) (or_true (not global))
+        ∙ ap (λ (o : Option Tree). on_tree o (λ tree. equate_given b global name (number_of tree)))
+        (ap (λ (k : ℕ). tree_in k (expression_text (Leaf (expression.Constant n)))) written.lab_len ∙ tree_back 0 (Leaf (expression.Constant n)) (omega arith) number.1 (omega arith))
+        ∙ if_again (is_listable name && not (is_among b.names name)) (with_name name (then_said (Equates global name n ∷ []) (with_run_written b))) holds short)) gives
 
     by : (z : Bool) → (not global || eqb private 0) ≡ z → cond z (on_tree (tree_in f.lab_len expr) (λ tree. equate_given b global name (number_of tree))) None ≡ Some g
         → IsGiven f equates b (records.Equate global name size form private expr) g
@@ -463,6 +489,9 @@ record_given f equates b l (records.Formula code count n expr) g same low is kno
     let e : IsExpression f.lab_len expr = subst (λ (k : ℕ). IsExpression k expr) same is.3 in
     let there = tree_in-again f.lab_len expr e.tree e.spells in
     given_as f equates b (records.Formula code count n expr) (formula_listable equates b code count n e.tree) (formula_given b code count n e.tree (split_last b.run) (simple_of e.tree)) g
-    (λ holds. formula_put f equates b code count n expr e.tree low e.spells.formed e.spells.shallow there (is_count_of count is.1) is.2 are holds)
+    (λ holds short. formula_put f equates b code count n expr e.tree low e.spells.formed e.spells.shallow there (is_count_of count is.1) is.2 are holds
+    (λ h written. ap (λ (o : Option Tree). on_tree o (λ tree. if_short (formula_listable equates b code count n tree) (formula_given b code count n tree (split_last b.run) (simple_of tree))))
+    (ap (λ (k : ℕ). tree_in k (expression_text e.tree)) written.lab_len ∙ tree_back f.lab_len e.tree low e.spells.formed e.spells.shallow)
+    ∙ if_again (formula_listable equates b code count n e.tree) (formula_given b code count n e.tree (split_last b.run) (simple_of e.tree)) holds short))
     (sym (ap (λ (o : Option Tree). on_tree o (λ tree. if_short (formula_listable equates b code count n tree) (formula_given b code count n tree (split_last b.run) (simple_of tree)))) there) ∙ gives)
 record_given f equates b l _ g same low is known are no_end gives = absurd cc

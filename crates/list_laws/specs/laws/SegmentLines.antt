@@ -5,7 +5,7 @@ use Rattle.std.specs.Int.{is_power_of_two}
 use Rattle.std.specs.Option.{option_map}
 use Rattle.std.specs.List.{AllByRecursion, list_all, flat_map, position_or_len}
 use Rattle.std.proofs.lemmas.Bool.{eqb-true, leb-true, and_parts}
-use Rattle.std.proofs.lemmas.List.Concat.{flat_map-cons}
+use Rattle.std.proofs.lemmas.List.Concat.{flat_map-cons, flat_map-append}
 use Rattle.std.proofs.lemmas.Slice.Eq.{bytes_eq-Decides}
 use Rattle.omf_format.specs.Field.{◌>>=◌, Layout}
 use Rattle.omf_format.specs.File as format
@@ -17,7 +17,6 @@ use Rattle.object_meaning.specs.Sizes.{body_size}
 use Rattle.orca_meaning.specs.Line.{line_of}
 use Rattle.orca_meaning.specs.Names.{with_name}
 use Rattle.asm_meaning.specs.declared.directives.Class.{Class}
-use Rattle.asm_meaning.specs.declared.directives.Class.TheVariants.{Code, Data}
 use Rattle.asm_meaning.specs.declared.directives.Switch.TheVariants.{LongA, LongI}
 use Rattle.asm_meaning.specs.Constant.{Constants}
 use Rattle.asm_meaning.specs.Instruction.{Widths}
@@ -33,7 +32,7 @@ use Rattle.list_meaning.specs.Listing as listing
 use Rattle.list_meaning.specs.Listing.{PendingRun, Given, without_padding, is_listable, is_listable_load_name, has_listable_header, unless_zero, front_of, widths_rest, said_rest, is_among, is_short, given_by, with_run_written, then_said, equate_name, said_from, both_long, listing_of, listing_from}
 use Rattle.list_meaning.specs.laws.Steps.{is_padded, are_short, equates_of, or_record, at_front, is_listed_form, greatest_length, has_lost_place}
 use Rattle.list_laws.specs.Flat.{contents_of}
-use Rattle.list_laws.specs.Given.{name_said, widths_said, Opens, Closes}
+use Rattle.list_laws.specs.Given.{name_said, widths_said, class_of, Opens, Closes}
 use Rattle.list_laws.specs.laws.BytesLine.{AreBytes}
 use Rattle.list_laws.specs.laws.FormulaLaw.{IsPlainName}
 use Rattle.list_laws.specs.laws.FormulaCan.{plain_name}
@@ -42,6 +41,7 @@ use Rattle.list_laws.specs.laws.LineGives.{Stands, line_gives}
 use Rattle.list_laws.specs.laws.After.{Leads, leads_on, one_more, given, widths_after, given-append, AreFine, AreFine-append, Holds, Ran, lines_run}
 use Rattle.list_laws.specs.laws.RunGives.{Runs, rest_runs}
 use Rattle.list_laws.specs.laws.Content.{Alike, alike_cons, alike_end, spaces_of}
+use Rattle.list_laws.specs.laws.Again.{IsWrittenAs, AreSaid, without_run, said_on, end_said, end_equates, equates_located}
 use Rattle.list_laws.specs.laws.RecordLines.{IsKnown, record_given}
 use Rattle.list_laws.specs.laws.WholeLaw.{IsSaidLine}
 use Rattle.list_laws.specs.laws.SaidLines.{front_line, origin_line, begins_line, kind_line, end_line, fine_line}
@@ -56,6 +56,8 @@ pub record IsWritten (f : HeaderFields) (equates : List (List ℕ)) (b : Pending
   pub short : AllByRecursion (λ said. is_short said ≡ true) lines
   pub fine : AreFine equates f.align b.names b.widths mids
   pub alike : (at : ℕ) → Alike f.lab_len f.res_spc at b.run rs (given b.widths mids)
+  pub again : (h : HeaderFields) → IsWrittenAs f h → (c : PendingRun) × AreSaid h equates (without_run b) (given b.widths mids ++ End ∷ []) lines c
+  pub same_equates : flat_map equate_name rs ≡ flat_map equate_name (given b.widths mids)
 
 all_short : (lines : List ListedStatement) → list_all is_short lines ≡ true → AllByRecursion (λ said. is_short said ≡ true) lines
 all_short [] e = tt
@@ -144,6 +146,13 @@ end_written f equates b lines g more fits are gives none whole = by (are_short a
               (subst (λ (n : List (List ℕ)). AreFine equates f.align n (widths_after b.widths run_lines) spaces) (sym runs.same_names)
               (subst (λ (w : Widths). AreFine equates f.align b.names w spaces) (sym runs.widths) stands.fine));
           alike = λ at. subst (Alike f.lab_len f.res_spc at b.run (End ∷ [])) (sym gives) (alike_end f.lab_len f.res_spc at b.run (given b.widths run_lines) runs.consts runs.bytes_given);
+          again = λ h written.
+              let said = end_said h equates b (given b.widths run_lines) f.res_spc written.spaced runs.consts runs.bytes_given short in (
+                said.0,
+                subst (λ (l : List ListedStatement). AreSaid h equates (without_run b) (given b.widths (run_lines ++ spaces) ++ End ∷ []) l said.0) (sym all)
+                    (subst (λ (rs : List Record). AreSaid h equates (without_run b) (rs ++ End ∷ []) (run_lines ++ (spaces ++ EndIs ∷ [])) said.0) (sym gives) said.1),
+              );
+          same_equates = sym (ap (flat_map equate_name) gives ∙ end_equates (given b.widths run_lines) f.res_spc runs.consts);
         }
       where
         some_given : (a b : Given) → Some a ≡ Some b → a ≡ b
@@ -182,6 +191,18 @@ records_written f equates l b (found ∷ next ∷ founds) lines same low fits kn
           (subst (λ (w : Widths). AreFine equates f.align g.1.names w others.mids) (sym put.widths) others.fine));
       alike = λ at. subst (Alike f.lab_len f.res_spc at b.run (found.1 ∷ rs)) (sym gives)
           (alike_cons f.lab_len f.res_spc at b.run g.1.run found.1 rs (given b.widths g.0) (given g.1.widths others.mids) (put.same at) (others.alike (place_after at (given b.widths g.0))));
+      again = λ h written.
+          let rest = others.again h written in
+          let whole : given b.widths (g.0 ++ others.mids) ++ End ∷ [] ≡ given b.widths g.0 ++ (given g.1.widths others.mids ++ End ∷ []) =
+          ap (λ (l : List Record). l ++ End ∷ []) gives ∙ append_assoc (given b.widths g.0) (given g.1.widths others.mids) (End ∷ []) in (
+            rest.0,
+            subst (λ (l : List ListedStatement). AreSaid h equates (without_run b) (given b.widths (g.0 ++ others.mids) ++ End ∷ []) l rest.0) (sym parts.whole)
+                (subst (λ (l : List Record). AreSaid h equates (without_run b) l (g.0 ++ parts.more) rest.0) (sym whole)
+                (said_on h equates (without_run b) (without_run g.1) rest.0 (given b.widths g.0) (given g.1.widths others.mids ++ End ∷ []) g.0 parts.more (put.again h written) rest.1)),
+          );
+      same_equates = flat_map-cons equate_name found.1 rs ∙ ap (λ (l : List (List ℕ)). l ++ flat_map equate_name rs) put.same_equates
+          ∙ ap (λ (l : List (List ℕ)). flat_map equate_name (given b.widths g.0) ++ l) others.same_equates
+          ∙ sym (ap (flat_map equate_name) gives ∙ flat_map-append equate_name (given b.widths g.0) (given g.1.widths others.mids));
     }
 
 -- an equate's name is among those of the segment's equates
@@ -324,10 +345,6 @@ org_ready align n ended state number fits ready = by (eqb n 0) refl
       ready = record { none = ready.none; outside = ready.outside; org_is = refl; align_is = ready.align_is; front = ready.front; ended_is = ready.ended_is };
     }
 
-abbrev pub class_of : Bool → Class
-class_of true = Data
-class_of false = Code
-
 -- after START or DATA
 record HasBegun (crosses : Bool) (name load_name : List ℕ) (align org : ℕ) (ended : List FinishedSegment) (state : State) (number : ℕ) : Type 0 where
   next : State
@@ -342,6 +359,7 @@ record HasBegun (crosses : Bool) (name load_name : List ℕ) (align org : ℕ) (
   org_is : s.header.org ≡ org
   align_is : s.header.align ≡ align
   spaced : s.header.res_spc ≡ 0
+  entry : s.header.entry ≡ 0
   names : s.names ≡ with_name name None no_names
   body : s.body ≡ []
   outside : (name : List ℕ) → next.outside name ≡ None
@@ -349,10 +367,6 @@ record HasBegun (crosses : Bool) (name load_name : List ℕ) (align org : ℕ) (
   align_left : next.align ≡ 0
   front : next.front ≡ []
   ended_left : next.ended ≡ ended
-
-bank_of : (crosses : Bool) → bank_size_of (class_of crosses) ≡ cond crosses 0 0x10000
-bank_of true = refl
-bank_of false = refl
 
 begun_is : (crosses : Bool) (name load_name : List ℕ) (align org : ℕ) (ended : List FinishedSegment) (state : State) (number : ℕ) → Ready align org ended state
     → IsStep state (line_of 0 number (said_text (StartIs crosses name load_name))) (Ok (state_after_start state (line_of 0 number (said_text (StartIs crosses name load_name))) (class_of crosses) name (padded load_name)))
@@ -366,15 +380,11 @@ begun_is crosses name load_name align org ended state number ready step =
       left = record {
         after = record { start_line = line; class = class; header = states.header_of state class name (padded load_name); names = with_name name None no_names; body = state.front };
         was = ready.none;
-        here = refl;
-        name_is = refl;
-        load_name_is = refl;
-        bank_size = bank_of crosses;
-        org = refl;
-        align = refl;
+        next_is = refl;
+        class = refl;
+        header = refl;
         names = refl;
-        body = ready.front;
-        ended = refl;
+        body = refl;
       };
       s = record { start_line = line; class = class; header = states.header_of state class name (padded load_name); names = with_name name None no_names; body = state.front };
       here = refl;
@@ -385,6 +395,7 @@ begun_is crosses name load_name align org ended state number ready step =
       org_is = ready.org_is;
       align_is = ready.align_is;
       spaced = refl;
+      entry = refl;
       names = refl;
       body = ready.front;
       outside = ready.outside;
@@ -417,21 +428,29 @@ pub record IsEndedAs (s : format.Segment) (e : FinishedSegment) : Type 0 where
   pub body : e.body ≡ written ++ End ∷ []
   pub alike : Alike s.fields.lab_len s.fields.res_spc 0 [] (contents_of s) written
 
+-- the parts of a listing
+pub record ListedParts (s : format.Segment) (lines : List ListedStatement) : Type 0 where
+  pub header : has_listable_header s ≡ true
+  pub front_short : list_all is_short (front_of s.fields) ≡ true
+  pub more : List ListedStatement
+  pub rest : said_from s.fields (equates_of s) (at_front s.fields) s.records ≡ Ok more
+  pub whole : lines ≡ front_of s.fields ++ more
+
+-- the records of an ended segment are listed as these lines
+pub record IsSaidAgain (s : format.Segment) (e : FinishedSegment) (lines : List ListedStatement) : Type 0 where
+  pub parts : ListedParts s lines
+  pub entry : e.header.entry ≡ 0
+  pub again : (h : HeaderFields) → IsWrittenAs s.fields h → (c : PendingRun) × AreSaid h (equates_of s) (at_front s.fields) e.body parts.more c
+  pub same_equates : equates_of s ≡ flat_map equate_name e.body
+
 pub record SegmentRan (s : format.Segment) (ended : List FinishedSegment) (state : State) (number : ℕ) (lines : List ListedStatement) : Type 0 where
   pub last : State
   pub leads : Leads state number lines last
   pub e : FinishedSegment
   pub ready : Ready 0 0 (ended ++ e ∷ []) last
   pub is : IsEndedAs s e
+  pub again : IsSaidAgain s e lines
   pub said : AllByRecursion IsSaidLine lines
-
--- the parts of a listing
-record ListedParts (s : format.Segment) (lines : List ListedStatement) : Type 0 where
-  header : has_listable_header s ≡ true
-  front_short : list_all is_short (front_of s.fields) ≡ true
-  more : List ListedStatement
-  rest : said_from s.fields (equates_of s) (at_front s.fields) s.records ≡ Ok more
-  whole : lines ≡ front_of s.fields ++ more
 
 listed_parts : (s : format.Segment) (lines : List ListedStatement) → listing_of s ≡ Ok lines → ListedParts s lines
 unfolding listing_of
@@ -579,7 +598,7 @@ module _ (s : format.Segment) (lines : List ListedStatement) (ended : List Finis
   ends_with = ap (λ (o : Option StartedSegment). ran.last.ended ++ ended_of (option_map (with_local_record [] 0x4E (End ∷ [])) o)) ran.here
 
   end_left : Closes ran.last last_state
-  end_left = record { s = ran.after; was = ran.here; here = refl; ended = ends_with }
+  end_left = record { s = ran.after; was = ran.here; next_is = ap (λ (l : List FinishedSegment). record last_state { ended = l }) ends_with }
 
   leads : Leads state number lines last_state
   unfolding front_of
@@ -618,6 +637,19 @@ module _ (s : format.Segment) (lines : List ListedStatement) (ended : List Finis
     alike = written.alike 0;
   }
 
+  is_said_again : IsSaidAgain s ending lines
+  is_said_again =
+      let whole : ending.body ≡ records' ++ End ∷ [] = ap (λ (l : List Record). l ++ End ∷ []) body_is in
+      record {
+        parts = parts;
+        entry = ap (λ (h : HeaderFields). h.entry) header_is ∙ third.entry;
+        again = λ h form.
+            let again = written.again h form in
+            (again.0, subst (λ (l : List Record). AreSaid h (equates_of s) (at_front s.fields) l parts.more again.0) (sym whole) again.1);
+        same_equates = equates_located s.records ∙ written.same_equates
+            ∙ sym (ap (flat_map equate_name) whole ∙ flat_map-append equate_name records' (End ∷ []) ∙ append-nil (flat_map equate_name records'));
+      }
+
   ready_again : Ready 0 0 (ended ++ ending ∷ []) last_state
   ready_again = record {
     none = refl;
@@ -651,7 +683,7 @@ module _ (s : format.Segment) (lines : List ListedStatement) (ended : List Finis
       (subst (AllByRecursion IsSaidLine) (sym written.whole) following))
 
   segment_runs : SegmentRan s ended state number lines
-  segment_runs = record { last = last_state; leads = leads; e = ending; ready = ready_again; is = is_ended; said = said }
+  segment_runs = record { last = last_state; leads = leads; e = ending; ready = ready_again; is = is_ended; again = is_said_again; said = said }
 
 -- ---- a file
 
@@ -661,12 +693,21 @@ AreEndedAs [] (e ∷ ended) = ⊥
 AreEndedAs (s ∷ segments) [] = ⊥
 AreEndedAs (s ∷ segments) (e ∷ ended) = IsEndedAs s e × AreEndedAs segments ended
 
+-- and each is listed as it was
+abbrev pub AreSaidAgain : List format.Segment → List FinishedSegment → List ListedStatement → Type 0
+AreSaidAgain [] [] lines = lines ≡ []
+AreSaidAgain [] (e ∷ ended) lines = ⊥
+AreSaidAgain (s ∷ segments) [] lines = ⊥
+AreSaidAgain (s ∷ segments) (e ∷ ended) lines =
+    (first : List ListedStatement) × (more : List ListedStatement) × IsSaidAgain s e first × (lines ≡ first ++ more) × AreSaidAgain segments ended more
+
 pub record FileRan (segments : List format.Segment) (ended : List FinishedSegment) (state : State) (number : ℕ) (lines : List ListedStatement) : Type 0 where
   pub last : State
   pub leads : Leads state number lines last
   pub more : List FinishedSegment
   pub ready : Ready 0 0 (ended ++ more) last
   pub are : AreEndedAs segments more
+  pub again : AreSaidAgain segments more lines
   pub said : AllByRecursion IsSaidLine lines
 
 -- the lines of the first segment, and of the others
@@ -701,7 +742,7 @@ none_listed k lines is = sym (same_file [] lines is)
 pub file_runs : (k : ℕ) (segments : List format.Segment) (lines : List ListedStatement) (ended : List FinishedSegment) (state : State) (number : ℕ) → AllByRecursion IsReadSegment segments → listing_from k segments ≡ Ok lines → Ready 0 0 ended state
     → FileRan segments ended state number lines
 file_runs k [] lines ended state number read is ready =
-    record { last = state; leads = subst (λ (l : List ListedStatement). Leads state number l state) (sym (none_listed k lines is)) refl; more = []; ready = subst (λ (x : List FinishedSegment). Ready 0 0 x state) (sym (append-nil ended)) ready; are = tt; said = subst (AllByRecursion IsSaidLine) (sym (none_listed k lines is)) tt }
+    record { last = state; leads = subst (λ (l : List ListedStatement). Leads state number l state) (sym (none_listed k lines is)) refl; more = []; ready = subst (λ (x : List FinishedSegment). Ready 0 0 x state) (sym (append-nil ended)) ready; are = tt; again = none_listed k lines is; said = subst (AllByRecursion IsSaidLine) (sym (none_listed k lines is)) tt }
 file_runs k (s ∷ segments) lines ended state number read is ready =
     let parts = file_parts k s segments lines is in
     let first = segment_runs s parts.first ended state number read.0 (listed_parts s parts.first parts.here) ready in
@@ -712,5 +753,6 @@ file_runs k (s ∷ segments) lines ended state number read is ready =
       more = first.e ∷ others.more;
       ready = subst (λ (x : List FinishedSegment). Ready 0 0 x others.last) (append_assoc ended (first.e ∷ []) others.more) others.ready;
       are = (first.is, others.are);
+      again = (parts.first, parts.more, first.again, parts.whole, others.again);
       said = subst (AllByRecursion IsSaidLine) (sym parts.whole) (all-append IsSaidLine parts.first parts.more first.said others.said);
     }
