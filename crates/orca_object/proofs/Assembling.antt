@@ -7,9 +7,9 @@ use Rattle.asm_meaning.specs.declared.faults.AsmFault.{AsmFault}
 use Rattle.asm_meaning.specs.Object.{AreSteps}
 use Rattle.asm_meaning.specs.State.{State, start}
 use Rattle.asm_meaning.specs.Statement.{IsStep}
-use Rattle.orca_object.specs.declared.state.AsmState.{AsmState}
+use Rattle.orca_object.specs.declared.assembly.Assembly.{Assembly}
 use Rattle.orca_object.specs.AssembleView.{Stops}
-use Rattle.orca_object.specs.StateView.{ShowsState}
+use Rattle.orca_object.specs.AssemblyView.{Leaves}
 
 -- ---- lines
 
@@ -32,21 +32,21 @@ steps_more state middle last [] line steps step = (last, subst (λ (s : State). 
 steps_more state middle last (first ∷ lines) line steps step = (steps.0, steps.1, steps_more steps.0 middle last lines line steps.2 step)
 
 -- what the first lines have left
-pub record UnderWay (lines : List Line) (place : ℕ) (k : AsmState) : Type 0 where
+pub record UnderWay (lines : List Line) (place : ℕ) (a : Assembly) : Type 0 where
   pub state : State
   pub steps : AreSteps start (take place lines) state
-  pub shows : ShowsState state k
+  pub shows : Leaves state a
 
-pub goes_on : (lines : List Line) (place : ℕ) (old k : AsmState) (line : Line) (u : UnderWay lines place old) → slice_get lines place ≡ Some line → (next : State) × IsStep u.state line (Ok next) × ShowsState next k → UnderWay lines (place + 1) k
-goes_on lines place old k line u here step = record {
+pub goes_on : (lines : List Line) (place : ℕ) (old a : Assembly) (line : Line) (u : UnderWay lines place old) → slice_get lines place ≡ Some line → (next : State) × IsStep u.state line (Ok next) × Leaves next a → UnderWay lines (place + 1) a
+goes_on lines place old a line u here step = record {
   state = step.0;
   steps = subst (λ (l : List Line). AreSteps start l step.0) (sym (take_more lines place line here)) (steps_more start u.state step.0 (take place lines) line u.steps step.1);
   shows = step.2;
 }
 
-pub stops : (lines : List Line) (place : ℕ) (k : AsmState) (line : Line) (cause : AsmCause) (fault : AsmFault) (u : UnderWay lines place k) → slice_get lines place ≡ Some line → IsStep u.state line (Err cause)
+pub stops : (lines : List Line) (place : ℕ) (a : Assembly) (line : Line) (cause : AsmCause) (fault : AsmFault) (u : UnderWay lines place a) → slice_get lines place ≡ Some line → IsStep u.state line (Err cause)
     → fault ≡ record { cause = cause; file = line.file; line = line.number } → Stops lines fault
-stops lines place k line cause fault u here wrong is = record {
+stops lines place a line cause fault u here wrong is = record {
   before = take place lines;
   line = line;
   following = drop (place + 1) lines;

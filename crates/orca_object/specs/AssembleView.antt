@@ -8,8 +8,8 @@ use Rattle.asm_meaning.specs.Object.{AreSteps, object_text, most_bytes}
 use Rattle.asm_meaning.specs.declared.faults.AsmCause.TheVariants.{Unclosed, TooLong}
 use Rattle.asm_meaning.specs.State.{State, StartedSegment, start}
 use Rattle.asm_meaning.specs.Statement.{IsStep}
-use Rattle.orca_object.specs.declared.state.AsmState.{AsmState}
-use Rattle.orca_object.specs.StateView.{ShowsState}
+use Rattle.orca_object.specs.declared.assembly.Assembly.{Assembly}
+use Rattle.orca_object.specs.AssemblyView.{Leaves}
 
 -- a line with a fault, after lines that have none
 pub record Stops (lines : List Line) (fault : AsmFault) : Type 0 where
@@ -24,14 +24,14 @@ pub record Stops (lines : List Line) (fault : AsmFault) : Type 0 where
   pub fault_is : fault ≡ record { cause = cause; file = line.file; line = line.number }
 
 -- all lines have left this
-pub record Ends (lines : List Line) (k : AsmState) : Type 0 where
+pub record Ends (lines : List Line) (a : Assembly) : Type 0 where
   pub last : State
   pub steps : AreSteps start lines last
-  pub shows : ShowsState last k
+  pub shows : Leaves last a
 
 -- the state after these lines, or the fault of the first that has one
-abbrev pub HasStepped : List Line → Result AsmState AsmFault → Type 0
-HasStepped lines (Ok k) = Ends lines k
+abbrev pub HasStepped : List Line → Result Assembly AsmFault → Type 0
+HasStepped lines (Ok a) = Ends lines a
 HasStepped lines (Err fault) = Stops lines fault
 
 -- the fault of what is left at the end: a segment without END, or too many bytes

@@ -9,4 +9,5 @@ pub mod GivenBy
 pub mod DoingView
 pub mod MarkView
 pub mod StepView
+pub mod AssemblyView
 pub mod AssembleView

@@ -1,6 +1,7 @@
 //! Expanded lines to object segments (ORCA/M reference manual, "Assembler directives"; GS/OS Reference, appendix F).
 #![tactic(auto)]
 
+mod assembly;
 mod data;
 mod equates;
 mod object;
@@ -12,4 +13,4 @@ mod statement;
 mod step;
 mod switches;
 
-pub use step::assemble_lines;
+pub use assembly::{Assembly, assemble_lines};

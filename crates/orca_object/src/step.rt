@@ -1,7 +1,6 @@
-//! What lines leave, one after another, and the object at their end (ORCA/M reference manual, "The assembly language
-//! statement").
+//! What a line leaves for those after it (ORCA/M reference manual, "The assembly language statement").
 
-ghost use Rattle.std.specs.Prelude.{◌≡◌, [], List, true, false, Some, IfOk, OnOk, Err};
+ghost use Rattle.std.specs.Prelude.{◌≡◌, true, false, Some, IfOk};
 ghost use Rattle.orca_meaning.specs.Line.{Line, LiesIn, HaveFields, part};
 ghost use Rattle.orca_text.specs.OperandView.{line_operand};
 ghost use Rattle.orca_text.specs.DecodedView.{decoded_line};
@@ -12,7 +11,6 @@ ghost use Rattle.asm_meaning.specs.Statement.{needs_label, is_misplaced};
 ghost use Rattle.orca_object.specs.DoneView.{IsSome};
 ghost use Rattle.orca_object.specs.StateView.{ShowsState, IsLeft};
 ghost use Rattle.orca_object.specs.StepView.{Steps, IsPlacedAs};
-ghost use Rattle.orca_object.specs.AssembleView.{HasStepped, IsLast, IsAssembled};
 
 use crate::data::{do_anop, do_constants, do_instruct, do_space};
 use crate::equates::{do_equ, do_gequ};
@@ -21,9 +19,9 @@ use crate::places::{do_align, do_org};
 use crate::segments::{do_begin, do_end, do_entry, do_kind, do_using};
 use crate::state::AsmState;
 use crate::switches::turning;
-use asm_meaning::{AsmCause, AsmFault, Directive, Operation};
+use asm_meaning::{AsmCause, Directive, Operation};
 use omf_base::Name;
-use orca_text::{DecodedLine, LinePart, Lines, SourceLine};
+use orca_text::{DecodedLine, LinePart};
 use std::alloc::{AllocError, Global};
 
 /// A directive that needs no label.
@@ -126,7 +124,7 @@ fn finish(
 }
 
 /// What a line leaves, or its first fault.
-fn step(
+pub(crate) fn step(
     alloc: Global,
     kept: &mut AsmState,
     of: &DecodedLine,
@@ -148,76 +146,4 @@ fn step(
     }
     let label = label_of(alloc, kept, operation, text)?;
     finish(alloc, kept, operation, label, of)
-}
-
-/// A fault at a line.
-fn fault_at(of: &SourceLine, cause: AsmCause) -> AsmFault
-    ensures { result ≡ record { cause = cause; file = of.now.file; line = of.now.line } }
-{
-    AsmFault {
-        cause,
-        file: of.file,
-        line: of.line,
-    }
-}
-
-/// What lines leave, or the fault of the first that has one.
-fn step_all(alloc: Global, lines: &Lines) -> Result<Result<AsmState, AsmFault>, AllocError>
-    ensures { IfOk result (HasStepped lines.now) }
-{
-    let mut kept = AsmState::new(alloc);
-    let mut place: u32 = 0;
-    let count = lines.count();
-    'lines: while place < count {
-        let line = match lines.get_decoded(place) {
-            Some(line) => line,
-            None => unreachable!(),
-        };
-        match step(alloc, &mut kept, line)? {
-            Ok(()) => {}
-            Err(cause) => return Ok(Err(fault_at(&line.line, cause))),
-        }
-        place += 1;
-    }
-    Ok(Ok(kept))
-}
-
-/// The object that lines have left: the first of their faults is that a segment has no END, then that it is too long.
-fn object_of(kept: AsmState) -> Result<Vec<u8>, AsmFault>
-    ensures { (state : State) → ShowsState state kept → IsLast state result }
-{
-    if let Some(open) = &kept.segment {
-        return Err(AsmFault {
-            cause: AsmCause::Unclosed,
-            file: open.file,
-            line: open.line,
-        });
-    }
-    if kept.object.long {
-        return Err(AsmFault {
-            cause: AsmCause::TooLong,
-            file: 0,
-            line: 0,
-        });
-    }
-    Ok(kept.object.bytes)
-}
-
-/// The object that lines have left, or the fault of the first that has one.
-fn object_or_fault(stepped: Result<AsmState, AsmFault>) -> Result<Vec<u8>, AsmFault>
-    ensures assembled { (lines : List Line) → HasStepped lines stepped → IsAssembled lines result }
-    ensures fault { (fault : AsmFault) → stepped ≡ Err fault → result ≡ Err fault }
-{
-    match stepped {
-        Ok(kept) => object_of(kept),
-        Err(fault) => Err(fault),
-    }
-}
-
-/// The object of expanded lines, or the first fault of theirs.
-pub fn assemble_lines(alloc: Global, lines: &Lines) -> Result<Result<Vec<u8>, AsmFault>, AllocError>
-    ensures { IfOk result (IsAssembled lines.now) }
-{
-    let stepped = step_all(alloc, lines)?;
-    Ok(object_or_fault(stepped))
 }
