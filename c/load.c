@@ -136,16 +136,15 @@ static uint32_t taken(uint32_t length) {
     return at;
 }
 
-/* Puts all segments of a load file one after another into the banks. */
-static void load(const struct made *file) {
-    struct omf_fault fault;
+/* Puts all segments of an open load file one after another into the banks. */
+static void load(struct omf_file_view *view) {
     uint32_t count = 0;
-    want(omf_segments(file->bytes, file->size, &count, &fault) == OMF_DONE, "it is a load file");
+    want(omf_segments(view, &count) == OMF_DONE, "the segments are counted");
     uint32_t *addresses = calloc(count, sizeof *addresses);
     want(addresses != NULL, "there is memory");
     static struct omf_segment_header header;
     for (uint32_t number = 1; number <= count; number++) {
-        want(omf_header(file->bytes, file->size, number, &header, &fault) == OMF_DONE, "each segment has a header");
+        want(omf_header(view, number, &header) == OMF_DONE, "each segment has a header");
         addresses[number - 1] = taken(header.length);
         printf("segment %u at %06X length %08X kind %04X name ", number, addresses[number - 1], header.length, header.kind);
         print_quoted(header.name, header.name_size);
@@ -154,18 +153,22 @@ static void load(const struct made *file) {
     for (uint32_t number = 1; number <= count; number++) {
         uint8_t *room = banks + addresses[number - 1];
         size_t size;
-        want(omf_place(file->bytes, file->size, number, addresses, count, room, (size_t)(banks + sizeof banks - room), &size, &fault) == OMF_DONE,
-             "each segment is placed");
+        want(omf_place(view, number, addresses, count, room, (size_t)(banks + sizeof banks - room), &size) == OMF_DONE, "each segment is placed");
         printf("%u:", number);
         for (size_t k = 0; k < size; k++)
             printf(" %02X", room[k]);
         printf("\n");
     }
-    want(omf_place(file->bytes, file->size, 1, addresses, count - 1, banks, BANK, &(size_t){0}, &fault) == OMF_MISUSED,
-         "an address is missing");
-    want(omf_place(file->bytes, file->size, count + 1, addresses, count, banks, BANK, &(size_t){0}, &fault) == OMF_MISUSED,
-         "there is no such segment");
     free(addresses);
+}
+
+/* Prints where the entries of the jump table lead. */
+static void print_entries(struct omf_file_view *view) {
+    struct omf_target targets[4];
+    size_t entries = 0;
+    want(omf_entries(view, targets, 4, &entries) == OMF_DONE, "the entries are returned");
+    for (size_t k = 0; k < entries; k++)
+        printf("entry %zu: file %u segment %u offset %08X\n", k + 1, targets[k].file, targets[k].segment, targets[k].offset);
 }
 
 int main(void) {
@@ -182,13 +185,11 @@ int main(void) {
     struct omf_bytes inputs[] = {{object.bytes, object.size}, {library.bytes, library.size}};
     struct made linked = room_of(4096);
     want(omf_link(inputs, 2, linked.bytes, 4096, &linked.size, &fault) == OMF_DONE, "the program is linked");
-    load(&linked);
-
-    struct omf_target targets[4];
-    size_t entries = 0;
-    want(omf_entries(linked.bytes, linked.size, targets, 4, &entries, &fault) == OMF_DONE, "the entries are returned");
-    for (size_t k = 0; k < entries; k++)
-        printf("entry %zu: file %u segment %u offset %08X\n", k + 1, targets[k].file, targets[k].segment, targets[k].offset);
+    struct omf_file_view view = {0};
+    want(omf_open(linked.bytes, linked.size, &view, &fault) == OMF_DONE, "it is a load file");
+    load(&view);
+    print_entries(&view);
+    want(omf_close(&view) == OMF_DONE, "it was open");
 
     uint8_t spare[256];
     size_t size = 0;
@@ -198,8 +199,7 @@ int main(void) {
     struct omf_bytes alone = {unresolved.bytes, unresolved.size};
     want(omf_link(&alone, 1, spare, sizeof spare, &size, &fault) == OMF_REFUSED, "a name has no definition");
     print_fault(&fault);
-    uint32_t count;
-    want(omf_segments(object.bytes, object.size, &count, &fault) == OMF_REFUSED, "an object is no load file");
+    want(omf_open(object.bytes, object.size, &view, &fault) == OMF_REFUSED, "an object is no load file");
     print_fault(&fault);
     want(omf_link(inputs, 2, spare, 10, &size, &fault) == OMF_SMALL && size == linked.size, "ten bytes are too few");
     want(omf_cause_name(0, spare, sizeof spare, &size) == OMF_MISUSED, "no cause has number 0");

@@ -1,11 +1,11 @@
 /* Apple IIGS: load files read and placed, and sources assembled, files linked, libraries made and files listed (Object Module Format 2.1).
  *
- * Each call writes into the caller's room, and keeps nothing: what it takes of memory it gives back at its end. It takes memory by malloc,
- * realloc and free. What it is promised to do is in docs/C.md, and is proved of the library; that this header says the same as the
- * library is tested.
+ * Each call writes into the caller's room, and keeps nothing but what an open load file needs, which omf_close gives back: what else it
+ * takes of memory it gives back at its end. It takes memory by malloc, realloc and free. What it is promised to do is in docs/C.md, and is
+ * proved of the library; that this header says the same as the library is tested.
  *
- * For each pointer with a number after it: that many items lie there. No pointer is null, not even where the number is 0. What a call reads
- * and what it writes don't overlap.
+ * For each pointer with a number after it: that many items lie there. Where the number is 0 the pointer may be NULL; no other pointer is.
+ * What a call reads and what it writes don't overlap.
  */
 #ifndef OMF_H
 #define OMF_H
@@ -31,7 +31,19 @@ enum omf_status {
     /* The call was given what it can't take, as said of each. */
     OMF_MISUSED = 3,
     /* The room is too small: `size` says what is needed, and the room stays as it was. */
-    OMF_SMALL = 4
+    OMF_SMALL = 4,
+    /* No load file is open. */
+    OMF_NO_FILE = 5,
+    /* A load file is open already. */
+    OMF_IS_OPEN = 6,
+    /* No segment has the number. */
+    OMF_NO_SEGMENT = 7,
+    /* There are more or fewer addresses than segments. */
+    OMF_OTHER_COUNT = 8,
+    /* No path, or no exported name, has the number. */
+    OMF_NO_ITEM = 9,
+    /* The file has more than 4,294,967,295 bytes. */
+    OMF_TOO_MANY_BYTES = 10
 };
 
 /* The causes of refusals. Their names are those that the program prints; docs/ANSWERS.md says what each means. */
@@ -177,23 +189,61 @@ struct omf_target {
     uint32_t offset;
 };
 
-/* ---- load files. Each is misused where the file has more than 4,294,967,295 bytes. */
+/* The place in a segment that an exported name represents: the segment from 1, and the offset in it. */
+struct omf_export {
+    uint32_t offset;
+    uint16_t segment;
+};
 
-/* How many segments the load file has. */
-uint32_t omf_segments(const uint8_t *file, size_t file_size, uint32_t *count, struct omf_fault *fault);
+/* An open load file, or none. Set all of it to 0 before the first call. What is in it is the library's: it isn't copied, and while a file is
+ * open nobody else writes it. Two calls on one of these don't run at once. */
+struct omf_file_view {
+    uint32_t open;
+    void *file;
+};
 
-/* The header of the segment with a number, from 1. Misused: no segment has it. */
-uint32_t omf_header(const uint8_t *file, size_t file_size, uint32_t number, struct omf_segment_header *header, struct omf_fault *fault);
+/* ---- load files, opened and closed */
+
+/* Reads and checks a load file, once, and opens it. The bytes aren't copied: they have to stay where and as they are until omf_close.
+ * OMF_IS_OPEN: a file is open there already. OMF_TOO_MANY_BYTES: the file has more than 4,294,967,295 bytes. */
+uint32_t omf_open(const uint8_t *file, size_t file_size, struct omf_file_view *view, struct omf_fault *fault);
+
+/* Closes the file, and gives back what was kept of it. The bytes are the caller's alone again. OMF_NO_FILE: no file is open. */
+uint32_t omf_close(struct omf_file_view *view);
+
+/* ---- open load files. OMF_NO_FILE: none is open. */
+
+/* How many segments the file has. */
+uint32_t omf_segments(struct omf_file_view *view, uint32_t *count);
+
+/* The header of the segment with a number, from 1. OMF_NO_SEGMENT: no segment has it. */
+uint32_t omf_header(struct omf_file_view *view, uint32_t number, struct omf_segment_header *header);
 
 /* The bytes in memory of the segment with a number, from 1, where the segments lie at these addresses, one for each segment of the file:
- * LENGTH bytes, all patches done. A segment to which no place leads may have any address. Misused: another number of addresses than of
- * segments, or no segment has the number. */
-uint32_t omf_place(const uint8_t *file, size_t file_size, uint32_t number, const uint32_t *addresses, size_t count, uint8_t *room,
-                   size_t room_size, size_t *size, struct omf_fault *fault);
+ * LENGTH bytes, all patches done. A segment to which no place leads may have any address. OMF_NO_SEGMENT: no segment has the number.
+ * OMF_OTHER_COUNT: there are more or fewer addresses than segments. It may return OMF_MEMORY. */
+uint32_t omf_place(struct omf_file_view *view, uint32_t number, const uint32_t *addresses, size_t count, uint8_t *room, size_t room_size,
+                   size_t *size);
 
 /* Where the entries of the file's jump table lead, in order; none where it has no table. Sizes are in entries. */
-uint32_t omf_entries(const uint8_t *file, size_t file_size, struct omf_target *room, size_t room_size, size_t *size,
-                     struct omf_fault *fault);
+uint32_t omf_entries(struct omf_file_view *view, struct omf_target *room, size_t room_size, size_t *size);
+
+/* How many run-time library files the file names by their paths. They are files 2, 3 and so on of its jump table. */
+uint32_t omf_paths(struct omf_file_view *view, uint32_t *count);
+
+/* The path of the file with a number, from 2, without a zero after it. OMF_NO_ITEM: no path is that of a file with the number. */
+uint32_t omf_path(struct omf_file_view *view, uint32_t number, uint8_t *room, size_t room_size, size_t *size);
+
+/* How many names the file exports, as a run-time library file does. */
+uint32_t omf_exports(struct omf_file_view *view, uint32_t *count);
+
+/* The name at a place, from 0, among those that the file exports, in the order of its segments and records, without a zero after it, and
+ * the place in a segment that it represents. That is written only with the name. OMF_NO_ITEM: no name is at the place. */
+uint32_t omf_export(struct omf_file_view *view, uint32_t place, uint8_t *room, size_t room_size, size_t *size,
+                    struct omf_export *exported);
+
+/* Whether the file is a run-time library file, all segments of which are dynamic, and none skipped: 1, or else 0. */
+uint32_t omf_is_runtime(struct omf_file_view *view, uint32_t *answer);
 
 /* ---- what is made of files. A size of what is made is in bytes. */
 

@@ -15,17 +15,17 @@ class Call:
         self.name, self.parameters, self.said, self.said_of_part = name, parameters, said, said_of_part
 
     def statuses(self):
-        """The statuses that it can return: a call that reports no fault works without memory of its own and refuses nothing."""
-        names = " ".join(self.parameters)
-        never_misused = "Never misused" in self.said
+        """The statuses that it can return: those that are named of it, and those that its parameters tell. A call that reports no fault
+        refuses nothing."""
+        names, said = " ".join(self.parameters), self.said + " " + self.said_of_part
         found = {
             "OMF_DONE": True,
             "OMF_REFUSED": "omf_fault" in names,
             "OMF_MEMORY": "omf_fault" in names,
-            "OMF_MISUSED": not never_misused and "isused" in self.said + self.said_of_part,
+            "OMF_MISUSED": "Never misused" not in self.said and "isused" in said,
             "OMF_SMALL": "room_size" in names,
         }
-        return [status for status, can_be in found.items() if can_be]
+        return [status for status, _, _ in numbered("omf_status") if found.get(status) or re.search(rf"\b{status}\b", said)]
 
 
 def plain(comment):

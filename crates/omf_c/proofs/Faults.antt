@@ -5,10 +5,6 @@ use Rattle.omf_format.specs.declared.fault.FileCause.{FileCause}
 use Rattle.omf_format.specs.declared.fault.FileCause.TheVariants as file_causes
 use Rattle.omf_format.specs.declared.fault.FileFault.{FileFault}
 use Rattle.omf_format.specs.File.{IsFirstFault}
-use Rattle.load_meaning.specs.declared.load.LoadCause.{LoadCause}
-use Rattle.load_meaning.specs.declared.load.LoadCause.TheVariants as load_causes
-use Rattle.load_meaning.specs.declared.load.LoadFault.{LoadFault}
-use Rattle.load_meaning.specs.Loadable.{IsFirstLoadFault}
 use Rattle.link_meaning.specs.declared.fault.LinkCause.TheVariants as link_causes
 use Rattle.link_meaning.specs.declared.fault.LinkFault.{LinkFault}
 use Rattle.link_meaning.specs.LinkFaults.{LinkInput}
@@ -17,10 +13,8 @@ use Rattle.asm_meaning.specs.declared.faults.AsmCause.TheVariants as asm_causes
 use Rattle.asm_meaning.specs.declared.faults.AsmFault.{AsmFault}
 use Rattle.source_meaning.specs.Object as asm
 use Rattle.omf_records.specs.Segments as records
-use Rattle.load_content.specs.Views.{UnlessMemory}
-use Rattle.omf_cells.specs.Load as cells
 use Rattle.link_file.specs.Answers.{IsLinkRefused}
-use Rattle.omf_c.specs.Causes.{cause_names, name_of}
+use Rattle.omf_c_files.specs.Causes.{cause_names, name_of}
 
 pub no_name : (number : ℕ) → 48 < number → name_of number ≡ None
 no_name zero more = refl
@@ -35,23 +29,6 @@ first_file file_causes.Memory fault P other is = absurd (other refl)
 
 pub file_first : (fault : FileFault) (file : List ℕ) → fault.cause ≢ file_causes.Memory → records.IsRefused fault file → IsFirstFault file fault
 file_first fault file other refused = first_file fault.cause fault (IsFirstFault file fault) other refused
-
-first_load : (c : LoadCause) (fault : LoadFault) (P : Type 0) → (c ≡ load_causes.Memory → ⊥) → UnlessMemory c fault P → P
-first_load load_causes.NotLoadFile fault P other is = is
-first_load load_causes.Truncated fault P other is = is
-first_load load_causes.BadHeader fault P other is = is
-first_load load_causes.Unsupported fault P other is = is
-first_load load_causes.BadRecord fault P other is = is
-first_load load_causes.Sequence fault P other is = is
-first_load load_causes.DataTooLong fault P other is = is
-first_load load_causes.PatchOutside fault P other is = is
-first_load load_causes.NoSuchTarget fault P other is = is
-first_load load_causes.DynamicTarget fault P other is = is
-first_load load_causes.BadTable fault P other is = is
-first_load load_causes.Memory fault P other is = absurd (other refl)
-
-pub load_first : (fault : LoadFault) (file : List ℕ) → fault.cause ≢ load_causes.Memory → cells.IsRefused fault file → IsFirstLoadFault file fault
-load_first fault file other refused = first_load fault.cause fault (IsFirstLoadFault file fault) other refused
 
 pub link_first : (given : LinkInput) (fault : LinkFault) → fault.cause ≢ link_causes.Memory → IsLinkRefused given fault → IsFirstLinkFault given fault
 link_first given fault other (inl lacks) = absurd (other (ap (λ (f : LinkFault). f.cause) lacks))

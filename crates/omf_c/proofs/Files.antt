@@ -12,9 +12,9 @@ use Rattle.link_meaning.specs.declared.form.LinkForm.{LinkForm}
 use Rattle.link_meaning.specs.LinkFaults as link
 use Rattle.link_resolve.specs.Resolved.{all_bytes, given_of, HavePaths}
 use Rattle.link_resolve.specs.Runtimes.{files_of}
-use Rattle.omf_c.specs.declared.fault.OmfFault.{OmfFault}
+use Rattle.omf_c_files.specs.declared.fault.OmfFault.{OmfFault}
 use Rattle.omf_c.specs.declared.file.OmfFile.{OmfFile}
-use Rattle.omf_c.specs.Handed.{reported_outcome}
+use Rattle.omf_c_files.specs.Handed.{reported_outcome}
 use Rattle.omf_c.specs.Making.{Makes, link_given, library_given, HasName, IsShort}
 
 -- a number of each file that is at most another one in all

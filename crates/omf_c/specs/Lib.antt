@@ -1,6 +1,3 @@
 -- What the calls of the library say of what they were given and of what they put into the caller's room.
-pub mod Causes
 pub mod Faults
-pub mod Handed
-pub mod Loaded
 pub mod Making

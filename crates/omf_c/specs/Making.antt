@@ -10,11 +10,11 @@ use Rattle.link_meaning.specs.LinkFaults as link
 use Rattle.link_meaning.specs.EmitFaults.{IsFirstLinkFault, IsLinkedTo}
 use Rattle.link_resolve.specs.Resolved.{FewGiven, HavePaths}
 use Rattle.source_meaning.specs.Object as asm
-use Rattle.omf_c.specs.declared.fault.OmfFault.{OmfFault}
+use Rattle.omf_c_files.specs.declared.fault.OmfFault.{OmfFault}
 use Rattle.omf_c.specs.declared.file.OmfBytes.{OmfBytes}
 use Rattle.omf_c.specs.declared.file.OmfFile.{OmfFile}
 use Rattle.omf_c.specs.Faults.{ReportsFile, ReportsLib, ReportsLink, ReportsAsm}
-use Rattle.omf_c.specs.Handed.{CallOutcome, Made, Refused, NoMemory, Misused}
+use Rattle.omf_c_files.specs.Handed.{CallOutcome, Made, Refused, NoMemory, Misused}
 
 -- What is given can be taken, and the bytes are made of it, or its first fault is reported; a call is misused exactly where it can't be
 -- taken.

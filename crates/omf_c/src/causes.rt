@@ -2,20 +2,17 @@
 
 ghost use Rattle.std.specs.Prelude.{◌≡◌, ◌≢◌, Some, MatchOption};
 ghost use Rattle.omf_making.specs.FileCauses.{cause_name};
-ghost use Rattle.loader_machine.specs.Replies.{cause_text};
 ghost use Rattle.omf_commands.specs.LibCauses.{lib_cause_name};
 ghost use Rattle.omf_cli.specs.LinkCauses.{link_cause_name};
 ghost use Rattle.omf_commands.specs.AsmCauses.{asm_cause_name};
 ghost use Rattle.omf_format.specs.declared.fault.FileCause.TheVariants as file_causes;
-ghost use Rattle.load_meaning.specs.declared.load.LoadCause.TheVariants as load_causes;
 ghost use Rattle.lib_dict.specs.declared.fault.LibCause.TheVariants as lib_causes;
 ghost use Rattle.link_meaning.specs.declared.fault.LinkCause.TheVariants as link_causes;
 ghost use Rattle.asm_meaning.specs.declared.faults.AsmCause.TheVariants as asm_causes;
-ghost use Rattle.omf_c.specs.Causes.{name_of};
+ghost use Rattle.omf_c_files.specs.Causes.{name_of};
 
 use lib_dict::LibCause;
 use link_meaning::LinkCause;
-use load_meaning::LoadCause;
 use omf_records::FileCause;
 use orca_asm::AsmCause;
 
@@ -29,27 +26,6 @@ pub fn file_number(cause: FileCause) -> Option<u32>
         FileCause::Unsupported => Some(3),
         FileCause::BadRecord => Some(4),
         FileCause::Memory => None,
-    }
-}
-
-/// The number of the cause of a load file's fault; None when out of memory.
-#[tactic(auto, unfolding(loader_machine::specs::Replies::cause_text))]
-pub fn load_number(cause: LoadCause) -> Option<u32>
-    ensures { MatchOption result (cause ≡ load_causes.Memory) (λ number. (cause ≢ load_causes.Memory) × (name_of number ≡ Some (cause_text cause))) }
-{
-    match cause {
-        LoadCause::NotLoadFile => Some(5),
-        LoadCause::Truncated => Some(1),
-        LoadCause::BadHeader => Some(2),
-        LoadCause::Unsupported => Some(3),
-        LoadCause::BadRecord => Some(4),
-        LoadCause::Sequence => Some(6),
-        LoadCause::DataTooLong => Some(7),
-        LoadCause::PatchOutside => Some(8),
-        LoadCause::NoSuchTarget => Some(9),
-        LoadCause::DynamicTarget => Some(10),
-        LoadCause::BadTable => Some(11),
-        LoadCause::Memory => None,
     }
 }
 

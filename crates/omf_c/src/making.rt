@@ -4,16 +4,16 @@ ghost use Rattle.std.specs.Prelude.{◌≡◌, ◌≢◌, ◌<◌, ◌≤◌, �
 ghost use Rattle.link_meaning.specs.declared.form.LinkForm.TheVariants as forms;
 ghost use Rattle.link_meaning.specs.LinkFaults.{plain};
 ghost use Rattle.omf_c.specs.Making.{contents, link_given, library_given, Dumps, Assembles, Links, MakesLibrary};
-ghost use Rattle.omf_c.specs.Handed.{CallOutcome, IsHanded, outcome_of, reported_outcome};
+ghost use Rattle.omf_c_files.specs.Handed.{CallOutcome, IsHanded, outcome_of, reported_outcome};
 
-use crate::answer::{Answer, hand};
-use crate::fault::{OmfFault, asm_fault, file_fault, lib_fault, link_fault};
+use crate::fault::{asm_fault, file_fault, lib_fault, link_fault};
 use crate::file::{OmfBytes, OmfFile, are_short, copies, have_names, members};
 use dump_lines::dump_file;
 use lib_dict::{LibFault, make_library};
 use link_emit::link_with;
 use link_meaning::{LinkFault, LinkForm};
 use link_resolve::may_resolve;
+use omf_c_files::{Answer, OmfFault, hand};
 use orca_asm::assemble;
 use std::alloc::Global;
 

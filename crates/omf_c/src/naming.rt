@@ -1,10 +1,10 @@
 //! The names of causes.
 
 ghost use Rattle.std.specs.Prelude.{◌≡◌, MatchOption, option_map};
-ghost use Rattle.omf_c.specs.Causes.{name_of};
-ghost use Rattle.omf_c.specs.Handed.{IsPut, status_misused};
+ghost use Rattle.omf_c_files.specs.Causes.{name_of};
+ghost use Rattle.omf_c_files.specs.Handed.{IsPut, status_misused};
 
-use crate::answer::{MISUSED, write_answer};
+use omf_c_files::{MISUSED, write_answer};
 
 /// The name of the cause with a number.
 fn name_of(number: u32) -> Option<&'static str>
