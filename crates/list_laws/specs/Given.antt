@@ -8,6 +8,7 @@ use Rattle.omf_format.specs.Expression.{Tree, Leaf, Binary}
 use Rattle.omf_format.specs.Header.{HeaderFields}
 use Rattle.omf_format.specs.Record as records
 use Rattle.omf_format.specs.Record.{Record, End, Const, Align, Org, Space, Using, Strong, Equate, Formula}
+use Rattle.orca_meaning.specs.Line.{Line}
 use Rattle.orca_meaning.specs.Names.{with_name}
 use Rattle.orca_meaning.specs.declared.mnemonics.Mnemonic.{Mnemonic}
 use Rattle.orca_meaning.specs.declared.modes.Mode.{Mode}
@@ -90,6 +91,11 @@ abbrev pub widths_said : ListedStatement → Widths → Widths
 widths_said (SwitchIs switch on) w = with_width_set switch on w
 widths_said _ w = w
 
+-- MSB after a line
+abbrev pub msb_said : ListedStatement → Bool → Bool
+msb_said (SwitchIs Msb on) msb = on
+msb_said _ msb = msb
+
 -- KIND sets the header's
 abbrev pub header_said : ListedStatement → HeaderFields → HeaderFields
 header_said (KindIs n) header = record header { kind = n }
@@ -97,7 +103,7 @@ header_said _ header = header
 
 -- ---- what a line inside a segment leaves
 
--- the open segment has its records, its name and its header's field, and nothing else is changed but the widths
+-- the open segment has its records, its name and its header's field, and nothing else is changed but the widths and MSB
 pub record Leaves (said : ListedStatement) (state : State) (s : StartedSegment) (next : State) : Type 0 where
   pub after : StartedSegment
   pub here : next.segment ≡ Some after
@@ -107,6 +113,7 @@ pub record Leaves (said : ListedStatement) (state : State) (s : StartedSegment) 
   pub names : after.names ≡ names_said said s.names
   pub body : after.body ≡ s.body ++ records_said state.widths said
   pub widths : next.widths ≡ widths_said said state.widths
+  pub msb : next.msb ≡ msb_said said state.msb
   pub outside : next.outside ≡ state.outside
   pub org : next.org ≡ state.org
   pub align : next.align ≡ state.align
@@ -120,12 +127,13 @@ abbrev pub class_of : Bool → Class
 class_of true = Data
 class_of false = Code
 
--- START or DATA opens a segment with the header of its class, this name and this LOADNAME, in which nothing but the name is defined. It
--- takes the ORG, the ALIGN and the records that wait for it, so that none are left, and nothing else is changed.
-pub record Opens (crosses : Bool) (name load_name : List ℕ) (state next : State) : Type 0 where
+-- START or DATA, on this line, opens a segment with the header of its class, this name and this LOADNAME, in which nothing but the name is
+-- defined. It takes the ORG, the ALIGN and the records that wait for it, so that none are left, and nothing else is changed.
+pub record Opens (line : Line) (crosses : Bool) (name load_name : List ℕ) (state next : State) : Type 0 where
   pub after : StartedSegment
   pub was : state.segment ≡ None
   pub next_is : next ≡ record state { org = 0; align = 0; front = []; segment = Some after }
+  pub start_line : after.start_line ≡ line
   pub class : after.class ≡ class_of crosses
   pub header : after.header ≡ header_of state (class_of crosses) name (load_name ++ replicate (10 - length load_name) ascii.space)
   pub names : after.names ≡ with_name name None no_names
@@ -141,9 +149,9 @@ pub record Closes (state next : State) : Type 0 where
   }
 
 -- what a line was written for: ALIGN and ORG before START wait for the next segment, and all lines after it give to the open one
-abbrev pub IsLeft : ListedStatement → State → State → Type 0
-IsLeft (NextAlignIs n) state next = next ≡ record state { align = n }
-IsLeft (NextOrg n) state next = next ≡ record state { org = n }
-IsLeft (StartIs crosses name load_name) state next = Opens crosses name load_name state next
-IsLeft EndIs state next = Closes state next
-IsLeft said state next = (s : StartedSegment) × (state.segment ≡ Some s) × Leaves said state s next
+abbrev pub IsLeft : Line → ListedStatement → State → State → Type 0
+IsLeft line (NextAlignIs n) state next = next ≡ record state { align = n }
+IsLeft line (NextOrg n) state next = next ≡ record state { org = n }
+IsLeft line (StartIs crosses name load_name) state next = Opens line crosses name load_name state next
+IsLeft line EndIs state next = Closes state next
+IsLeft line said state next = (s : StartedSegment) × (state.segment ≡ Some s) × Leaves said state s next

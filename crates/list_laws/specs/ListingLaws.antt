@@ -21,7 +21,7 @@ use Rattle.list_meaning.specs.Listing.{listing_from}
 abbrev pub LineIsRead : Type 0
 LineIsRead = (file : List ℕ) (segments : List Segment) (before following : List ListedStatement) (said : ListedStatement) (state : State) → IsBytes file → IsFile segments file
     → listing_from 1 segments ≡ Ok (before ++ said ∷ following) → AreSteps start (numbered_lines 0 1 (map said_text before)) state
-    → (next : State) × IsStep state (line_of 0 (1 + length before) (said_text said)) (Ok next) × IsLeft said state next
+    → let line = line_of 0 (1 + length before) (said_text said) in (next : State) × IsStep state line (Ok next) × IsLeft line said state next
 
 -- assembled without macros, a text gives an object whose segments represent the same as these, unless that object would be too long
 pub data IsReadAgain (text : List ℕ) (segments : List Segment) : Type 0 where

@@ -7,7 +7,7 @@ use Rattle.std.proofs.lemmas.Slice.Eq.{bytes_eq-Decides}
 use Rattle.omf_format.specs.Header.{HeaderFields, alignment_of}
 use Rattle.omf_format.specs.Record.{Record}
 use Rattle.orca_meaning.specs.Formula.{pending}
-use Rattle.orca_meaning.specs.Line.{line_of, numbered_lines}
+use Rattle.orca_meaning.specs.Line.{Line, line_of, numbered_lines}
 use Rattle.orca_meaning.specs.Names.{with_name}
 use Rattle.asm_meaning.specs.declared.directives.Class.{Class}
 use Rattle.asm_meaning.specs.Constant.{Constants}
@@ -33,7 +33,7 @@ use Rattle.list_laws.specs.laws.LineGives.{IsInstruction, AreSome, CanStand, lin
 abbrev pub Leads : State → ℕ → List ListedStatement → State → Type 0
 Leads state number [] last = state ≡ last
 Leads state number (said ∷ rest) last =
-    (next : State) × (IsStep state (line_of 0 number (said_text said)) (Ok next) × IsLeft said state next) × Leads next (number + 1) rest last
+    (next : State) × (IsStep state (line_of 0 number (said_text said)) (Ok next) × IsLeft (line_of 0 number (said_text said)) said state next) × Leads next (number + 1) rest last
 
 pub leads_on : (a b c : State) (number : ℕ) (xs ys : List ListedStatement) → Leads a number xs b → Leads b (number + length xs) ys c → Leads a number (xs ++ ys) c
 leads_on a b c number [] ys p q =
@@ -215,13 +215,13 @@ holds_on equates align names w state next s said holds fine leaves = record {
   widths = leaves.widths ∙ ap (widths_said said) holds.widths;
 }
 
-left_inside : (equates : List (List ℕ)) (align : ℕ) (names : List (List ℕ)) (w : Widths) (said : ListedStatement) (state next : State) (s : StartedSegment) → IsFine equates align names w said → state.segment ≡ Some s → Leaves said state s next
-    → IsLeft said state next
-left_inside equates align names w (NextAlignIs n) state next s fine here leaves = absurd fine
-left_inside equates align names w (NextOrg n) state next s fine here leaves = absurd fine
-left_inside equates align names w (StartIs crosses name load_name) state next s fine here leaves = absurd fine
-left_inside equates align names w EndIs state next s fine here leaves = absurd fine
-left_inside equates align names w _ state next s fine here leaves = (s, here, leaves)
+left_inside : (line : Line) (equates : List (List ℕ)) (align : ℕ) (names : List (List ℕ)) (w : Widths) (said : ListedStatement) (state next : State) (s : StartedSegment) → IsFine equates align names w said → state.segment ≡ Some s → Leaves said state s next
+    → IsLeft line said state next
+left_inside line equates align names w (NextAlignIs n) state next s fine here leaves = absurd fine
+left_inside line equates align names w (NextOrg n) state next s fine here leaves = absurd fine
+left_inside line equates align names w (StartIs crosses name load_name) state next s fine here leaves = absurd fine
+left_inside line equates align names w EndIs state next s fine here leaves = absurd fine
+left_inside line equates align names w _ state next s fine here leaves = (s, here, leaves)
 
 -- ---- lines one after another
 
@@ -271,7 +271,7 @@ lines_run equates align names w state s number (said ∷ lines) holds fine room 
     let others = lines_run equates align (name_said said ++ names) (widths_said said w) first.next leaves.after (number + 1) lines (holds_on equates align names w state first.next s said holds fine.0 leaves) fine.1 next_room in
     record {
       last = others.last;
-      leads = (first.next, (first.step, left_inside equates align names w said state first.next s fine.0 holds.here leaves), others.leads);
+      leads = (first.next, (first.step, left_inside (line_of 0 number (said_text said)) equates align names w said state first.next s fine.0 holds.here leaves), others.leads);
       after = others.after;
       here = others.here;
       class = others.class ∙ leaves.class;

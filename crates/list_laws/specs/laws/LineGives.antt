@@ -23,7 +23,7 @@ use Rattle.asm_meaning.specs.Pieces.{place_after, length_at}
 use Rattle.asm_meaning.specs.State.{State, StartedSegment, cells_of, greatest_length, with_local_record, with_records, in_segment, local_of, with_switch_set, Names, with_label}
 use Rattle.asm_meaning.specs.Statement.{IsStep, constants_of, with_kind}
 use Rattle.list_meaning.specs.Listed.{ListedStatement, NextAlignIs, NextOrg, StartIs, KindIs, SwitchIs, Ds, Aligns, OrgIs, UsingIs, StrongIs, Labels, Equates, Instructs, Bytes, WeakIs, FormulaIs, EndIs, Wanted, None', Number, Banks, Label, Moved, said_text}
-use Rattle.list_laws.specs.Given.{instruction_records, records_said, names_said, widths_said, header_said, Leaves}
+use Rattle.list_laws.specs.Given.{instruction_records, records_said, names_said, widths_said, msb_said, header_said, Leaves}
 use Rattle.list_laws.specs.laws.FormulaLaw.{CanWrite, IsPlainName}
 use Rattle.list_laws.specs.laws.OperandLaw.{TakesName, HasName}
 use Rattle.list_laws.specs.laws.SumLaw.{AreUnknown, has_open}
@@ -88,9 +88,9 @@ pub record Stands (said : ListedStatement) (state : State) (s : StartedSegment) 
 
 -- records after those of the segment, with no label
 left_marked : (said : ListedStatement) (state : State) (s : StartedSegment) (number form : ℕ) (contents : List Record) → state.segment ≡ Some s
-    → records_said state.widths said ≡ contents → names_said said s.names ≡ s.names → widths_said said state.widths ≡ state.widths → header_said said s.header ≡ s.header
+    → records_said state.widths said ≡ contents → names_said said s.names ≡ s.names → widths_said said state.widths ≡ state.widths → msb_said said state.msb ≡ state.msb → header_said said s.header ≡ s.header
     → IsStep state (line_of 0 number (said_text said)) (Ok (in_segment (with_local_record [] form contents) state)) → Stands said state s number
-left_marked said state s number form contents here gives names widths header step = record {
+left_marked said state s number form contents here gives names widths msb header step = record {
   next = in_segment (with_local_record [] form contents) state;
   step = step;
   leaves = record {
@@ -102,6 +102,7 @@ left_marked said state s number form contents here gives names widths header ste
     names = sym names;
     body = ap (λ (l : List Record). s.body ++ l) (sym gives);
     widths = sym widths;
+    msb = sym msb;
     outside = refl;
     org = refl;
     align = refl;
@@ -134,6 +135,7 @@ left_local state s number name here is step = record {
     names = same_label name None s.names is;
     body = ap (λ (l : List Record). s.body ++ l) (same_local name (cells_of s) is);
     widths = refl;
+    msb = refl;
     outside = refl;
     org = refl;
     align = refl;
@@ -144,9 +146,9 @@ left_local state s number name here is step = record {
 
 -- one record and a name that may be a constant
 left_grown : (said : ListedStatement) (state : State) (s : StartedSegment) (number : ℕ) (name : List ℕ) (value : Option ℕ) (front contents : List Record) → state.segment ≡ Some s → IsPlainName name
-    → records_said state.widths said ≡ front ++ contents → names_said said s.names ≡ with_name name value s.names → widths_said said state.widths ≡ state.widths → header_said said s.header ≡ s.header
+    → records_said state.widths said ≡ front ++ contents → names_said said s.names ≡ with_name name value s.names → widths_said said state.widths ≡ state.widths → msb_said said state.msb ≡ state.msb → header_said said s.header ≡ s.header
     → IsStep state (line_of 0 number (said_text said)) (Ok (in_segment (with_records name value front contents) state)) → Stands said state s number
-left_grown said state s number name value front contents here is gives names widths header step = record {
+left_grown said state s number name value front contents here is gives names widths msb header step = record {
   next = in_segment (with_records name value front contents) state;
   step = step;
   leaves = record {
@@ -158,6 +160,7 @@ left_grown said state s number name value front contents here is gives names wid
     names = same_label name value s.names is ∙ sym names;
     body = ap (λ (l : List Record). s.body ++ l) (sym gives);
     widths = sym widths;
+    msb = sym msb;
     outside = refl;
     org = refl;
     align = refl;
@@ -184,6 +187,7 @@ left_turned state s number switch on here step = by switch step
         names = refl;
         body = refl;
         widths = refl;
+        msb = refl;
         outside = refl;
         org = refl;
         align = refl;
@@ -203,6 +207,7 @@ left_turned state s number switch on here step = by switch step
         names = refl;
         body = refl;
         widths = refl;
+        msb = refl;
         outside = refl;
         org = refl;
         align = refl;
@@ -222,6 +227,7 @@ left_turned state s number switch on here step = by switch step
         names = refl;
         body = refl;
         widths = refl;
+        msb = refl;
         outside = refl;
         org = refl;
         align = refl;
@@ -245,6 +251,7 @@ left_kind state s number n here step = record {
     names = refl;
     body = refl;
     widths = refl;
+    msb = refl;
     outside = refl;
     org = refl;
     align = refl;
@@ -266,9 +273,9 @@ number_records_same w m way bytes n same = ap (λ (k : ℕ). records.Const (opco
 line_instruction : (state : State) (s : StartedSegment) (number : ℕ) (m : Mnemonic) (way : Mode) (operand : Wanted) → state.segment ≡ Some s
     → IsInstruction (constants_of state) state.widths m way operand → Room state s (Instructs m way operand) → Stands (Instructs m way operand) state s number
 line_instruction state s number m modes.Implied None' here can room =
-    left_marked (Instructs m modes.Implied None') state s number 0x4D (instruction_records state.widths m modes.Implied None') here refl refl refl refl (implied_step state s number m here can.1 room)
+    left_marked (Instructs m modes.Implied None') state s number 0x4D (instruction_records state.widths m modes.Implied None') here refl refl refl refl refl (implied_step state s number m here can.1 room)
 line_instruction state s number m modes.Accumulator None' here can room =
-    left_marked (Instructs m modes.Accumulator None') state s number 0x4D (instruction_records state.widths m modes.Accumulator None') here refl refl refl refl
+    left_marked (Instructs m modes.Accumulator None') state s number 0x4D (instruction_records state.widths m modes.Accumulator None') here refl refl refl refl refl
     (accumulator_step state s number (opcode_in m modes.Accumulator) m here can.0 room)
 line_instruction state s number m way (Number bytes n) here can room =
     let w = state.widths in
@@ -277,17 +284,17 @@ line_instruction state s number m way (Number bytes n) here can room =
     let same = number_records_same w m way bytes n size in
     let fits : n < 256 ^ operand_bytes w m way = subst (λ (k : ℕ). n < 256 ^ k) size can.1.2 in
     let fit : place_after 0 (s.body ++ contents) ≤ greatest_length s.class = subst (λ (l : List Record). place_after 0 (s.body ++ l) ≤ greatest_length s.class) (sym same) room in
-    left_marked (Instructs m way (Number bytes n)) state s number 0x4D contents here (sym same) refl refl refl
+    left_marked (Instructs m way (Number bytes n)) state s number 0x4D contents here (sym same) refl refl refl refl
     (subst (λ (k : ℕ). IsStep state (line_of 0 number (said_text (Instructs m way (Number k n)))) (Ok (in_segment (with_local_record [] 0x4D contents) state))) (sym size)
     (number_step state s number (opcode_in m way) m way n here can.0 can.1.0 can.1.3 fits fit))
 line_instruction state s number m modes.Move (Banks source destination) here can room =
-    left_marked (Instructs m modes.Move (Banks source destination)) state s number 0x4D (instruction_records state.widths m modes.Move (Banks source destination)) here refl refl refl refl
+    left_marked (Instructs m modes.Move (Banks source destination)) state s number 0x4D (instruction_records state.widths m modes.Move (Banks source destination)) here refl refl refl refl refl
     (banks_step state s number (opcode_in m modes.Move) m source destination here can.0 can.1.0 can.1.1 room)
 line_instruction state s number m way (Label name) here can room =
-    left_marked (Instructs m way (Label name)) state s number 0x4D (instruction_records state.widths m way (Label name)) here refl refl refl refl
+    left_marked (Instructs m way (Label name)) state s number 0x4D (instruction_records state.widths m way (Label name)) here refl refl refl refl refl
     (held_step state s number (opcode_in m way) m way (Label name) here can.0 can.1.0 can.1.1 can.1.2 room)
 line_instruction state s number m way (Moved name adds n) here can room =
-    left_marked (Instructs m way (Moved name adds n)) state s number 0x4D (instruction_records state.widths m way (Moved name adds n)) here refl refl refl refl
+    left_marked (Instructs m way (Moved name adds n)) state s number 0x4D (instruction_records state.widths m way (Moved name adds n)) here refl refl refl refl refl
     (held_step state s number (opcode_in m way) m way (Moved name adds n) here can.0 can.1.0 can.1.1 can.1.2 room)
 line_instruction state s number m _ None' here can room = absurd can.1
 line_instruction state s number m _ (Banks source destination) here can room = absurd can.1
@@ -299,30 +306,30 @@ line_gives state s number (NextOrg n) here can room = absurd can
 line_gives state s number (StartIs crosses name load_name) here can room = absurd can
 line_gives state s number (KindIs n) here can room = left_kind state s number n here (kind_step state s number n here can.0 can.1 room)
 line_gives state s number (SwitchIs switch on) here can room = left_turned state s number switch on here (turns_step state s number switch on here room)
-line_gives state s number (Ds n) here can room = left_marked (Ds n) state s number 0x4E (records.Space n ∷ []) here refl refl refl refl (spaces_step state s number n here can room)
+line_gives state s number (Ds n) here can room = left_marked (Ds n) state s number 0x4E (records.Space n ∷ []) here refl refl refl refl refl (spaces_step state s number n here can room)
 line_gives state s number (Aligns n) here can room =
-    left_marked (Aligns n) state s number 0x4E (records.Align n ∷ []) here refl refl refl refl (align_step state s number n here can.0 can.1 can.2 room)
-line_gives state s number (OrgIs n) here can room = left_marked (OrgIs n) state s number 0x4E (records.Org n ∷ []) here refl refl refl refl (move_step state s number n here can room)
-line_gives state s number (UsingIs name) here can room = left_marked (UsingIs name) state s number 0x4E (records.Using name ∷ []) here refl refl refl refl (using_step state s number name here can room)
-line_gives state s number (StrongIs name) here can room = left_marked (StrongIs name) state s number 0x4E (records.Strong name ∷ []) here refl refl refl refl (asks_step state s number name here can room)
+    left_marked (Aligns n) state s number 0x4E (records.Align n ∷ []) here refl refl refl refl refl (align_step state s number n here can.0 can.1 can.2 room)
+line_gives state s number (OrgIs n) here can room = left_marked (OrgIs n) state s number 0x4E (records.Org n ∷ []) here refl refl refl refl refl (move_step state s number n here can room)
+line_gives state s number (UsingIs name) here can room = left_marked (UsingIs name) state s number 0x4E (records.Using name ∷ []) here refl refl refl refl refl (using_step state s number name here can room)
+line_gives state s number (StrongIs name) here can room = left_marked (StrongIs name) state s number 0x4E (records.Strong name ∷ []) here refl refl refl refl refl (asks_step state s number name here can room)
 line_gives state s number (Labels false name) here can room =
     left_local state s number name here can.0
     (local_step state s number name here can.0 can.1 (subst (λ (l : List Record). place_after 0 (s.body ++ l) ≤ greatest_length s.class) (sym (same_local name (cells_of s) can.0)) room))
 line_gives state s number (Labels true name) here can room =
-    left_grown (Labels true name) state s number name None (records.Label true name 0 0x4E 0 ∷ []) [] here can.0 refl refl refl refl (global_step state s number name here can.0 can.1 room)
+    left_grown (Labels true name) state s number name None (records.Label true name 0 0x4E 0 ∷ []) [] here can.0 refl refl refl refl refl (global_step state s number name here can.0 can.1 room)
 line_gives state s number (Equates false name n) here can room =
-    left_grown (Equates false name n) state s number name (Some n) [] (records_said state.widths (Equates false name n)) here can.0.0 refl refl refl refl
+    left_grown (Equates false name n) state s number name (Some n) [] (records_said state.widths (Equates false name n)) here can.0.0 refl refl refl refl refl
     (equ_step state s number name n here can.0.0 can.0.1 can.1 room)
 line_gives state s number (Equates true name n) here can room =
-    left_grown (Equates true name n) state s number name (Some n) [] (records_said state.widths (Equates true name n)) here can.0.0 refl refl refl refl
+    left_grown (Equates true name n) state s number name (Some n) [] (records_said state.widths (Equates true name n)) here can.0.0 refl refl refl refl refl
     (gequ_step state s number name n here can.0.0 can.0.1 can.1 room)
 line_gives state s number (Instructs m way operand) here can room = line_instruction state s number m way operand here can room
 line_gives state s number (Bytes []) here can room = absurd can.0
 line_gives state s number (Bytes (byte ∷ bytes)) here can room =
-    left_marked (Bytes (byte ∷ bytes)) state s number 0x4E (records.Const (byte ∷ bytes) ∷ []) here refl refl refl refl (bytes_step state s number byte bytes here can.1 can.2 room)
+    left_marked (Bytes (byte ∷ bytes)) state s number 0x4E (records.Const (byte ∷ bytes) ∷ []) here refl refl refl refl refl (bytes_step state s number byte bytes here can.1 can.2 room)
 line_gives state s number (WeakIs name) here can room =
-    left_marked (WeakIs name) state s number 0x4E (records_said state.widths (WeakIs name)) here refl refl refl refl (weakly_step state s number name here can room)
+    left_marked (WeakIs name) state s number 0x4E (records_said state.widths (WeakIs name)) here refl refl refl refl refl (weakly_step state s number name here can room)
 line_gives state s number (FormulaIs count tree) here can room =
-    left_marked (FormulaIs count tree) state s number 0x4E (records_said state.widths (FormulaIs count tree)) here refl refl refl refl
+    left_marked (FormulaIs count tree) state s number 0x4E (records_said state.widths (FormulaIs count tree)) here refl refl refl refl refl
     (sums_step state s number count tree here can.0 can.1 can.2 can.3 can.4 room)
 line_gives state s number EndIs here can room = absurd can

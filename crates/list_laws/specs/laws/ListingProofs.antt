@@ -159,16 +159,16 @@ next_same state line a b p q = same_right a b (step_once state line (Ok a) (Ok b
 
 -- of lines without a fault each leaves what it was written for
 line_left : (first last state : State) (number : ℕ) (before following : List ListedStatement) (said : ListedStatement) → Leads first number (before ++ said ∷ following) last → AreSteps first (numbered_lines 0 number (map said_text before)) state
-    → (next : State) × IsStep state (line_of 0 (number + length before) (said_text said)) (Ok next) × IsLeft said state next
+    → (next : State) × IsStep state (line_of 0 (number + length before) (said_text said)) (Ok next) × IsLeft (line_of 0 (number + length before) (said_text said)) said state next
 unfolding numbered_lines
 line_left first last state number [] following said leads steps =
     let same : number + 0 ≡ number = omega arith in
-    subst (λ (s : State). (next : State) × IsStep s (line_of 0 (number + 0) (said_text said)) (Ok next) × IsLeft said s next) steps
-    (subst (λ (n : ℕ). (next : State) × IsStep first (line_of 0 n (said_text said)) (Ok next) × IsLeft said first next) (sym same) (leads.0, leads.1.0, leads.1.1))
+    subst (λ (s : State). (next : State) × IsStep s (line_of 0 (number + 0) (said_text said)) (Ok next) × IsLeft (line_of 0 (number + 0) (said_text said)) said s next) steps
+    (subst (λ (n : ℕ). (next : State) × IsStep first (line_of 0 n (said_text said)) (Ok next) × IsLeft (line_of 0 n (said_text said)) said first next) (sym same) (leads.0, leads.1.0, leads.1.1))
 line_left first last state number (x ∷ before) following said leads steps =
     let same : leads.0 ≡ steps.0 = next_same first (line_of 0 number (said_text x)) leads.0 steps.0 leads.1.0 steps.1 in
     let count : number + 1 + length before ≡ number + length (x ∷ before) = omega arith in
-    subst (λ (n : ℕ). (next : State) × IsStep state (line_of 0 n (said_text said)) (Ok next) × IsLeft said state next) count
+    subst (λ (n : ℕ). (next : State) × IsStep state (line_of 0 n (said_text said)) (Ok next) × IsLeft (line_of 0 n (said_text said)) said state next) count
     (line_left leads.0 last state (number + 1) before following said leads.2 (subst (λ (s : State). AreSteps s (numbered_lines 0 (number + 1) (map said_text before)) state) (sym same) steps.2))
 
 pub line_is_read : LineIsRead

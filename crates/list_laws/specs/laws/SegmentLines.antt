@@ -349,7 +349,7 @@ org_ready align n ended state number fits ready = by (eqb n 0) refl
 record HasBegun (crosses : Bool) (name load_name : List ℕ) (align org : ℕ) (ended : List FinishedSegment) (state : State) (number : ℕ) : Type 0 where
   next : State
   step : IsStep state (line_of 0 number (said_text (StartIs crosses name load_name))) (Ok next)
-  left : Opens crosses name load_name state next
+  left : Opens (line_of 0 number (said_text (StartIs crosses name load_name))) crosses name load_name state next
   s : StartedSegment
   here : next.segment ≡ Some s
   class : s.class ≡ class_of crosses
@@ -381,6 +381,7 @@ begun_is crosses name load_name align org ended state number ready step =
         after = record { start_line = line; class = class; header = states.header_of state class name (padded load_name); names = with_name name None no_names; body = state.front };
         was = ready.none;
         next_is = refl;
+        start_line = refl;
         class = refl;
         header = refl;
         names = refl;
