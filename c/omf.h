@@ -95,7 +95,9 @@ enum omf_cause {
     OMF_BAD_OPERAND = 45,
     OMF_BAD_NUMBER = 46,
     OMF_BAD_MODE = 47,
-    OMF_UNKNOWN_CONSTANT = 48
+    OMF_UNKNOWN_CONSTANT = 48,
+    OMF_NOT_LISTABLE = 49,
+    OMF_BROKEN_PART = 50
 };
 
 /* A first fault. What it doesn't have is 0. */
@@ -168,6 +170,32 @@ enum omf_kind {
     OMF_PRIVATE = 0x4000,
     /* It is loaded when it is first called; without it the segment is static. */
     OMF_DYNAMIC = 0x8000
+};
+
+/* The first byte of a record. $01 to $DF is a CONST of so many bytes. */
+enum omf_record {
+    OMF_RECORD_END = 0x00,
+    OMF_RECORD_ALIGN = 0xE0,
+    OMF_RECORD_ORG = 0xE1,
+    OMF_RECORD_RELOC = 0xE2,
+    OMF_RECORD_INTERSEG = 0xE3,
+    OMF_RECORD_USING = 0xE4,
+    OMF_RECORD_STRONG = 0xE5,
+    OMF_RECORD_GLOBAL = 0xE6,
+    OMF_RECORD_GEQU = 0xE7,
+    OMF_RECORD_EXPR = 0xEB,
+    OMF_RECORD_ZEXPR = 0xEC,
+    OMF_RECORD_BEXPR = 0xED,
+    OMF_RECORD_RELEXPR = 0xEE,
+    OMF_RECORD_LOCAL = 0xEF,
+    OMF_RECORD_EQU = 0xF0,
+    OMF_RECORD_DS = 0xF1,
+    OMF_RECORD_LCONST = 0xF2,
+    OMF_RECORD_LEXPR = 0xF3,
+    OMF_RECORD_ENTRY = 0xF4,
+    OMF_RECORD_CRELOC = 0xF5,
+    OMF_RECORD_CINTERSEG = 0xF6,
+    OMF_RECORD_SUPER = 0xF7
 };
 
 /* A jump table: 8 zeros, an entry of 14 bytes for each target in order, and 4 zeros. An entry is the user ID, the file and the segment of
@@ -270,6 +298,28 @@ uint32_t omf_link_with(const struct omf_bytes *inputs, size_t count, const struc
 /* The library of object files under their names, as `omf lib` writes it. Misused: more than 65,535 files, a name of more than 255 bytes, or a
  * file of more than 4,294,967,295. */
 uint32_t omf_library(const struct omf_file *files, size_t count, uint8_t *room, size_t room_size, size_t *size, struct omf_fault *fault);
+
+/* The lines of a source after expansion with macro files, as `omf_expand` prints them. Never misused. */
+uint32_t omf_expand(const uint8_t *source, size_t source_size, const struct omf_bytes *macros, size_t count, uint8_t *room,
+                    size_t room_size, size_t *size, struct omf_fault *fault);
+
+/* The map of the link of omf_link, as `omf_map link` prints it. Misused as omf_link. */
+uint32_t omf_map(const struct omf_bytes *inputs, size_t count, uint8_t *room, size_t room_size, size_t *size, struct omf_fault *fault);
+
+/* The map of the link of omf_link_runtime, as `omf_map rtl` prints it. Misused as omf_link. */
+uint32_t omf_map_runtime(const struct omf_bytes *inputs, size_t count, uint8_t *room, size_t room_size, size_t *size,
+                         struct omf_fault *fault);
+
+/* The map of the link of omf_link_with, as `omf_map linkrt` prints it. Misused as omf_link_with. */
+uint32_t omf_map_with(const struct omf_bytes *inputs, size_t count, const struct omf_file *runtimes, size_t runtime_count, uint8_t *room,
+                      size_t room_size, size_t *size, struct omf_fault *fault);
+
+/* The source from which an object with the same content is assembled, as `omf list` writes it. Misused: the file has more than 4,294,967,295
+ * bytes. */
+uint32_t omf_list(const uint8_t *file, size_t file_size, uint8_t *room, size_t room_size, size_t *size, struct omf_fault *fault);
+
+/* The one fixed form of a load file, as `omf compact` writes it. Misused: the file has more than 4,294,967,295 bytes. */
+uint32_t omf_compact(const uint8_t *file, size_t file_size, uint8_t *room, size_t room_size, size_t *size, struct omf_fault *fault);
 
 /* ---- names */
 

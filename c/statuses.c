@@ -109,6 +109,8 @@ static const char routine[] =
 static const char program[] = "MAIN     START\n         JSL   BYE\n         RTL\n         END\n";
 static const char plain[] = "MAIN     START\n         LDA   >MAIN\n         RTL\n         END\n";
 
+static const char open_macro[] = "         MACRO\n         PUT\n";
+
 static struct made object_of_program, object_of_routine, object_of_plain, runtime, linked, alone;
 
 static void assemble(const char *source, struct made *made) {
@@ -203,16 +205,6 @@ static void try_making(void) {
     want(omf_library(&file, 1, NULL, 0, &size, &fault) == OMF_MISUSED && is_marked(), "a name is too long");
 
     mark();
-    want(omf_dump(object_of_plain.bytes, object_of_plain.size, room, sizeof room, &size, &fault) == OMF_DONE && wrote_size(), "a file is listed");
-    mark();
-    want(omf_dump(object_of_plain.bytes, object_of_plain.size, NULL, 0, &size, &fault) == OMF_SMALL && only_size(), "dump has no room");
-    mark();
-    want(omf_dump(object_of_plain.bytes, 9, room, sizeof room, &size, &fault) == OMF_REFUSED && only_fault(OMF_TRUNCATED), "dump refuses a cut file");
-    mark();
-    failing = 1;
-    want(omf_dump(object_of_plain.bytes, object_of_plain.size, room, sizeof room, &size, &fault) == OMF_MEMORY && is_marked(), "dump lacks memory");
-    failing = 0;
-    mark();
     want(omf_dump(NULL, 0, NULL, 0, &size, &fault) == OMF_DONE && size == 0, "no bytes have no lines");
 
     mark();
@@ -221,6 +213,88 @@ static void try_making(void) {
     want(omf_cause_name(OMF_EMPTY, room, 4, &size) == OMF_SMALL && only_size() && size == 5, "the name has five bytes");
     mark();
     want(omf_cause_name(0, room, sizeof room, &size) == OMF_MISUSED && is_marked(), "no cause has the number");
+}
+
+/* A call that makes something of a file. */
+typedef uint32_t (*of_file)(const uint8_t *file, size_t file_size, uint8_t *to, size_t to_size, size_t *made, struct omf_fault *first);
+
+/* One of what it takes is made of, and one that is refused for a cause. */
+static void try_of_file(of_file call, const struct made *good, const uint8_t *bad, size_t bad_size, uint32_t cause, const char *what) {
+    mark();
+    want(call(good->bytes, good->size, room, sizeof room, &size, &fault) == OMF_DONE && wrote_size() && size > 0, what);
+    size_t whole = size;
+    mark();
+    want(call(good->bytes, good->size, room, whole - 1, &size, &fault) == OMF_SMALL && only_size() && size == whole, what);
+    mark();
+    want(call(good->bytes, good->size, NULL, 0, &size, &fault) == OMF_SMALL && only_size() && size == whole, what);
+    mark();
+    want(call(bad, bad_size, room, sizeof room, &size, &fault) == OMF_REFUSED && only_fault(cause), what);
+    mark();
+    failing = 1;
+    want(call(good->bytes, good->size, room, sizeof room, &size, &fault) == OMF_MEMORY && is_marked(), what);
+    failing = 0;
+    /* Nothing of it is read. */
+    want(call(good->bytes, (size_t)1 << 32, room, sizeof room, &size, &fault) == OMF_MISUSED && is_marked(), what);
+}
+
+/* Maps, and the lines of a source. */
+static void try_texts(void) {
+    struct omf_bytes input = {object_of_plain.bytes, object_of_plain.size};
+    struct omf_file file = {text("lib/hello"), 9, runtime.bytes, runtime.size};
+    size_t whole;
+    mark();
+    want(omf_map(&input, 1, room, sizeof room, &size, &fault) == OMF_DONE && wrote_size() && memcmp(room, "load 1 length 00000005", 22) == 0, "a map is made");
+    whole = size;
+    mark();
+    want(omf_map(&input, 1, room, whole - 1, &size, &fault) == OMF_SMALL && only_size() && size == whole, "map has a byte too little");
+    mark();
+    want(omf_map(NULL, 0, room, sizeof room, &size, &fault) == OMF_REFUSED && only_fault(OMF_EMPTY), "map refuses no files");
+    mark();
+    failing = 1;
+    want(omf_map(&input, 1, room, sizeof room, &size, &fault) == OMF_MEMORY && is_marked(), "map lacks memory");
+    failing = 0;
+
+    input.bytes = object_of_routine.bytes;
+    input.size = object_of_routine.size;
+    mark();
+    want(omf_map_runtime(&input, 1, room, sizeof room, &size, &fault) == OMF_DONE && wrote_size(), "the map of a run-time library file is made");
+    mark();
+    want(omf_map_runtime(&input, 1, NULL, 0, &size, &fault) == OMF_SMALL && only_size(), "map_runtime has no room");
+    mark();
+    want(omf_map_runtime(NULL, 0, room, sizeof room, &size, &fault) == OMF_REFUSED && only_fault(OMF_EMPTY), "map_runtime refuses no files");
+    mark();
+    failing = 1;
+    want(omf_map_runtime(&input, 1, room, sizeof room, &size, &fault) == OMF_MEMORY && is_marked(), "map_runtime lacks memory");
+    failing = 0;
+
+    input.bytes = object_of_program.bytes;
+    input.size = object_of_program.size;
+    mark();
+    want(omf_map_with(&input, 1, &file, 1, room, sizeof room, &size, &fault) == OMF_DONE && wrote_size(), "a map with a run-time library file is made");
+    mark();
+    want(omf_map_with(&input, 1, &file, 1, room, 1, &size, &fault) == OMF_SMALL && only_size(), "map_with has too little room");
+    mark();
+    want(omf_map_with(&input, 1, NULL, 0, room, sizeof room, &size, &fault) == OMF_REFUSED && only_fault(OMF_UNRESOLVED), "map_with refuses");
+    mark();
+    failing = 1;
+    want(omf_map_with(&input, 1, &file, 1, room, sizeof room, &size, &fault) == OMF_MEMORY && is_marked(), "map_with lacks memory");
+    failing = 0;
+    file.name_size = 0;
+    mark();
+    want(omf_map_with(&input, 1, &file, 1, room, sizeof room, &size, &fault) == OMF_MISUSED && is_marked(), "map_with: a path has a byte");
+
+    mark();
+    want(omf_expand(text(plain), strlen(plain), NULL, 0, room, sizeof room, &size, &fault) == OMF_DONE && wrote_size() && size > 0, "a source is expanded");
+    mark();
+    want(omf_expand(text(plain), strlen(plain), NULL, 0, NULL, 0, &size, &fault) == OMF_SMALL && only_size(), "expand has no room");
+    mark();
+    failing = 1;
+    want(omf_expand(text(plain), strlen(plain), NULL, 0, room, sizeof room, &size, &fault) == OMF_MEMORY && is_marked(), "expand lacks memory");
+    failing = 0;
+    mark();
+    want(omf_expand(text(open_macro), strlen(open_macro), NULL, 0, room, sizeof room, &size, &fault) == OMF_REFUSED && only_fault(OMF_UNCLOSED), "expand refuses");
+    mark();
+    want(omf_expand(NULL, 0, NULL, 0, NULL, 0, &size, &fault) == OMF_DONE && size == 0, "no lines are no lines");
 }
 
 /* Calls on a view in which no file is open. */
@@ -335,6 +409,11 @@ static void try_open(void) {
 
 int main(void) {
     try_making();
+    try_of_file(omf_dump, &object_of_plain, object_of_plain.bytes, 9, OMF_TRUNCATED, "dump");
+    try_of_file(omf_list, &object_of_plain, object_of_plain.bytes, 9, OMF_TRUNCATED, "list");
+    try_of_file(omf_list, &object_of_plain, alone.bytes, alone.size, OMF_NOT_LISTABLE, "list of a load file");
+    try_of_file(omf_compact, &alone, object_of_plain.bytes, object_of_plain.size, OMF_NOT_LOAD_FILE, "compact");
+    try_texts();
     try_open();
     return checks > 100 ? 0 : 1;
 }

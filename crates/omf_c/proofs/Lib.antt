@@ -1,3 +1,2 @@
 -- Lemmas of the library for C.
 pub mod Faults
-pub mod Files

@@ -1,3 +1,1 @@
--- What the calls of the library say of what they were given and of what they put into the caller's room.
-pub mod Faults
-pub mod Making
+-- Nothing: what the calls owe is defined in the crates below.

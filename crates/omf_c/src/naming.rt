@@ -10,7 +10,7 @@ use omf_c_files::{MISUSED, write_answer};
 fn name_of(number: u32) -> Option<&'static str>
     ensures { option_map (λ name. name.now) result ≡ name_of number }
 {
-    if number == 0 || number > 48 {
+    if number == 0 || number > 50 {
         return None;
     }
     let name = match number {
@@ -62,6 +62,8 @@ fn name_of(number: u32) -> Option<&'static str>
         46 => "BadNumber",
         47 => "BadMode",
         48 => "UnknownConstant",
+        49 => "NotListable",
+        50 => "BrokenPart",
         _ => unreachable!(),
     };
     Some(name)

@@ -12,7 +12,7 @@ cause_names =
     ∷ codes "DoesNotFit" ∷ codes "FileTooLong" ∷ codes "LineTooLong" ∷ codes "TooManyLines" ∷ codes "NoSuchSymbol" ∷ codes "BadSetting"
     ∷ codes "BadArguments" ∷ codes "NoSequenceSymbol" ∷ codes "Unclosed" ∷ codes "Counter" ∷ codes "TooNested" ∷ codes "Noted"
     ∷ codes "UnknownOperation" ∷ codes "OutsideSegment" ∷ codes "BadLabel" ∷ codes "BadOperand" ∷ codes "BadNumber" ∷ codes "BadMode"
-    ∷ codes "UnknownConstant" ∷ []
+    ∷ codes "UnknownConstant" ∷ codes "NotListable" ∷ codes "BrokenPart" ∷ []
 
 -- the name of the cause with a number, if there is one
 abbrev pub name_of : ℕ → Option (List ℕ)

@@ -1,5 +1,0 @@
-use Rattle.omf_c.proofs.Files.{short_all}
-use Rattle.omf_c.proofs.file.are_short.Goals as goal
-
-pub returns : goal.returns
-returns c = let both = short_all c.args.files.now in rw (c.all_short.ensures) both

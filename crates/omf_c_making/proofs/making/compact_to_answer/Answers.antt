@@ -1,0 +1,10 @@
+use Rattle.std.proofs.Common.{sym, subst, arith}
+use Rattle.omf_c_making.specs.Making.{Compacts}
+use Rattle.omf_c_making.proofs.Files.{reported_makes}
+use Rattle.omf_c_making.proofs.making.compact_to_answer.Goals as goal
+
+pub returns-in-Err : goal.returns-in-Err
+returns-in-Err c =
+    let file = c.args.file.now in
+    subst (Compacts file) (sym c.answer_of_fault.ensures)
+    (reported_makes _ _ _ _ c.in-Err.fault c.compact_fault.result _ _ (omega arith) (λ other. (c.in-Err.ensures.refused, other)) c.compact_fault.ensures)

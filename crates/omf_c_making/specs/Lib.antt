@@ -1,0 +1,3 @@
+-- What the calls that make something of files owe, and how they report faults.
+pub mod Faults
+pub mod Making
